@@ -8,11 +8,7 @@ ghost use Rattle.mask.specs.Mask.{has, insert, remove, full, size};
 pub fn has(m: u32, i: u32) -> bool
     ensures { λ r. ⌜ r ≡ has i m ⌝ }
 {
-    if i < 32 {
-        (m >> i) % 2 == 1
-    } else {
-        false
-    }
+    if i < 32 { (m >> i) % 2 == 1 } else { false }
 }
 
 // The mask with place i.
@@ -27,11 +23,7 @@ pub fn insert(m: u32, i: u32) -> u32
 pub fn remove(m: u32, i: u32) -> u32
     ensures { λ r. ⌜ r ≡ remove i m ⌝ }
 {
-    if has(m, i) {
-        m - (1u32 << i)
-    } else {
-        m
-    }
+    if has(m, i) { m - (1u32 << i) } else { m }
 }
 
 // The mask of participants 1 to n.
