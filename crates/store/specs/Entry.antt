@@ -1,0 +1,49 @@
+-- The log entries: what each hands over, for every log and record. Order: 5, 8, 9. Assumes nothing.
+use mathlib.Core.Bool.{cond}
+use Prim.Native.Nat.{ℕ}
+use Rattle.store.specs.Types.{LogRecord, None, Yes, Abort, Commit, LogPair, Logged, Performed, EntryAnswer}
+use Rattle.store.specs.Log.{recordNumber, isAllowed, logOnce, log}
+
+-- the refusal's number or 0, the number of the record answered or 0, and the log
+pub record Handed : Type 0 where
+  pub number : ℕ
+  pub answer : ℕ
+  pub log : LogPair
+
+abbrev pub done : Logged → Handed
+done x = record { number = 0; answer = recordNumber (x .answer); log = x .log }
+
+-- a refusal hands the log back as given
+abbrev pub refused : ℕ → LogPair → Handed
+refused k l = record { number = k; answer = 0; log = l }
+
+-- what each case of the answer stands for
+abbrev pub handed : EntryAnswer → Handed
+handed (EntryAnswer.Done x) = done x
+handed (EntryAnswer.OutOfRange l) = refused 5 l
+handed (EntryAnswer.WrongRecord l) = refused 8 l
+handed (EntryAnswer.RefusedByRule l) = refused 9 l
+
+-- LogOnce takes yes or abort
+abbrev pub logOnceTakes : LogRecord → LogPair → Handed
+logOnceTakes None l = refused 8 l
+logOnceTakes Yes l = done (logOnce Yes l)
+logOnceTakes Abort l = done (logOnce Abort l)
+logOnceTakes Commit l = refused 8 l
+
+abbrev pub logOnceEntry : LogPair → LogRecord → Handed
+logOnceEntry l r = cond (isAllowed l) (logOnceTakes r l) (refused 5 l)
+
+-- Log takes abort or commit
+abbrev pub logHands : Performed → LogPair → Handed
+logHands Performed.Refused l = refused 9 l
+logHands (Performed.Done x) l = done x
+
+abbrev pub logTakes : LogRecord → LogPair → Handed
+logTakes None l = refused 8 l
+logTakes Yes l = refused 8 l
+logTakes Abort l = logHands (log Abort l) l
+logTakes Commit l = logHands (log Commit l) l
+
+abbrev pub logEntry : LogPair → LogRecord → Handed
+logEntry l r = cond (isAllowed l) (logTakes r l) (refused 5 l)

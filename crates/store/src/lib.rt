@@ -1,0 +1,230 @@
+// The store: write-once logs, the calls LogOnce and Log, and the two log entries.
+ghost use mathlib.Core.Path.{_≡_};
+ghost use lib.ListN.{getD, set};
+ghost use Rattle.store.specs.Log.{empty, isAllowed, logOnce, ended, log, perform};
+ghost use Rattle.store.specs.Entry.{handed, logOnceEntry, logHands, logEntry};
+
+// How many logs a store has: one for each participant that it has room for.
+pub const LOGS: usize = 8;
+
+// A log record.
+pub enum LogRecord {
+    None,
+    Yes,
+    Abort,
+    Commit,
+}
+
+// A log: its first and its last record.
+pub struct LogPair {
+    pub first: LogRecord,
+    pub last: LogRecord,
+}
+
+// The logs of all participants, participant p's at p - 1.
+pub struct Store {
+    pub logs: [LogPair; LOGS],
+}
+
+// What a party asks of a log, if anything.
+pub enum Call {
+    None,
+    LogOnce(LogRecord),
+    Log(LogRecord),
+}
+
+// What a call leaves: its answer, and the log afterwards.
+pub struct Logged {
+    pub answer: LogRecord,
+    pub log: LogPair,
+}
+
+// What the store makes of a call.
+pub enum Performed {
+    Refused,
+    Done(Logged),
+}
+
+// What a log entry hands over: what the call left, or a refusal with the log as given.
+pub enum EntryAnswer {
+    Done(Logged),
+    OutOfRange(LogPair),
+    WrongRecord(LogPair),
+    RefusedByRule(LogPair),
+}
+
+impl LogPair {
+    // Whether a log can hold this pair.
+    pub fn allowed(self) -> bool
+        ensures { λ b. ⌜ b ≡ isAllowed self ⌝ }
+    {
+        let first = self.first;
+        let last = self.last;
+        match first {
+            LogRecord::None => match last {
+                LogRecord::None => true,
+                LogRecord::Yes => false,
+                LogRecord::Abort => false,
+                LogRecord::Commit => false,
+            },
+            LogRecord::Yes => match last {
+                LogRecord::None => false,
+                LogRecord::Yes => true,
+                LogRecord::Abort => true,
+                LogRecord::Commit => true,
+            },
+            LogRecord::Abort => match last {
+                LogRecord::None => false,
+                LogRecord::Yes => false,
+                LogRecord::Abort => true,
+                LogRecord::Commit => false,
+            },
+            LogRecord::Commit => false,
+        }
+    }
+
+    // LogOnce of any record.
+    pub fn log_once(self, r: LogRecord) -> Logged
+        ensures { λ x. ⌜ x ≡ logOnce r self ⌝ }
+    {
+        let first = self.first;
+        let last = self.last;
+        match first {
+            LogRecord::None => Logged {
+                answer: r,
+                log: LogPair { first: r, last: r },
+            },
+            LogRecord::Yes => Logged {
+                answer: last,
+                log: self,
+            },
+            LogRecord::Abort => Logged {
+                answer: last,
+                log: self,
+            },
+            LogRecord::Commit => Logged {
+                answer: last,
+                log: self,
+            },
+        }
+    }
+
+    // The log with another last record.
+    fn ending(self, r: LogRecord) -> Performed
+        ensures { λ p. ⌜ p ≡ ended r self ⌝ }
+    {
+        let first = self.first;
+        Performed::Done(Logged {
+            answer: r,
+            log: LogPair {
+                first: first,
+                last: r,
+            },
+        })
+    }
+
+    // Log of any record.
+    pub fn log(self, r: LogRecord) -> Performed
+        ensures { λ p. ⌜ p ≡ log r self ⌝ }
+    {
+        let last = self.last;
+        match r {
+            LogRecord::None => Performed::Refused,
+            LogRecord::Yes => Performed::Refused,
+            LogRecord::Abort => match last {
+                LogRecord::None => Performed::Refused,
+                LogRecord::Yes => self.ending(LogRecord::Abort),
+                LogRecord::Abort => self.ending(LogRecord::Abort),
+                LogRecord::Commit => Performed::Refused,
+            },
+            LogRecord::Commit => match last {
+                LogRecord::None => Performed::Refused,
+                LogRecord::Yes => self.ending(LogRecord::Commit),
+                LogRecord::Abort => Performed::Refused,
+                LogRecord::Commit => self.ending(LogRecord::Commit),
+            },
+        }
+    }
+
+    // What a party's call makes of this log.
+    pub fn perform(self, c: Call) -> Performed
+        ensures { λ p. ⌜ p ≡ perform c self ⌝ }
+    {
+        match c {
+            Call::None => Performed::Refused,
+            Call::LogOnce(r) => Performed::Done(self.log_once(r)),
+            Call::Log(r) => self.log(r),
+        }
+    }
+
+    // The log entry LogOnce.
+    pub fn log_once_entry(self, r: LogRecord) -> EntryAnswer
+        ensures { λ a. ⌜ handed a ≡ logOnceEntry self r ⌝ }
+    {
+        if self.allowed() {
+            match r {
+                LogRecord::None => EntryAnswer::WrongRecord(self),
+                LogRecord::Yes => EntryAnswer::Done(self.log_once(r)),
+                LogRecord::Abort => EntryAnswer::Done(self.log_once(r)),
+                LogRecord::Commit => EntryAnswer::WrongRecord(self),
+            }
+        } else {
+            EntryAnswer::OutOfRange(self)
+        }
+    }
+
+    // What the log entry Log hands over of a call.
+    fn entry_answer(self, p: Performed) -> EntryAnswer
+        ensures { λ a. ⌜ handed a ≡ logHands p self ⌝ }
+    {
+        match p {
+            Performed::Refused => EntryAnswer::RefusedByRule(self),
+            Performed::Done(x) => EntryAnswer::Done(x),
+        }
+    }
+
+    // The log entry Log.
+    pub fn log_entry(self, r: LogRecord) -> EntryAnswer
+        ensures { λ a. ⌜ handed a ≡ logEntry self r ⌝ }
+    {
+        if self.allowed() {
+            match r {
+                LogRecord::None => EntryAnswer::WrongRecord(self),
+                LogRecord::Yes => EntryAnswer::WrongRecord(self),
+                LogRecord::Abort => self.entry_answer(self.log(r)),
+                LogRecord::Commit => self.entry_answer(self.log(r)),
+            }
+        } else {
+            EntryAnswer::OutOfRange(self)
+        }
+    }
+}
+
+impl Store {
+    // The log at place i. A place that no store has is empty.
+    pub fn log_at(self, i: usize) -> LogPair
+        ensures { λ l. ⌜ l ≡ getD (self .logs) i empty ⌝ }
+    {
+        if i < LOGS {
+            self.logs[i]
+        } else {
+            LogPair {
+                first: LogRecord::None,
+                last: LogRecord::None,
+            }
+        }
+    }
+
+    // The store with a log at place i. A place that no store has is left out.
+    pub fn with_log(self, i: usize, l: LogPair) -> Store
+        ensures { λ s. ⌜ s ≡ record { logs = set (self .logs) i l } ⌝ }
+    {
+        let mut next = self;
+        if i < LOGS {
+            next.logs[i] = l;
+            next
+        } else {
+            self
+        }
+    }
+}
