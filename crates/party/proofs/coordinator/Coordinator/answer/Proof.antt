@@ -1,0 +1,24 @@
+use borrow.Author.Needs.{needs}
+use Rattle.party.proofs.coordinator.Coordinator.answer.Statement.{statement}
+use Rattle.party.proofs.coordinator.Coordinator.answer.Tie as tie
+
+pub answer-spec : {M : Type 1} → statement M
+answer-spec =
+    tie.close
+    (tie.spec
+    (λ c. search needs)
+    (λ c. search needs)
+    (λ c. search needs)
+    (λ c κs. search needs)
+    (λ c κs. search needs)
+    (λ c. search needs)
+    (λ c. search needs)
+    (λ c. search needs)
+    (λ c. search needs)
+    (λ c. search needs)
+    (λ c. search needs)
+    (λ c. simp (c .heard-answered .ensures, c .before .insert .ensures, c .before .before .before .self .given .1))
+    (λ c. search needs)
+    (λ c. search needs)
+    (λ c. search needs)
+    (λ c. search needs))

@@ -1,0 +1,25 @@
+use mathlib.Core.Path.{sym, _∙_}
+use borrow.Author.Needs.{needs}
+use Rattle.party.proofs.coordinator.Coordinator.pending.Statement.{statement}
+use Rattle.party.proofs.coordinator.Coordinator.pending.Tie as tie
+
+pub pending-spec : {M : Type 1} → statement M
+pending-spec =
+    tie.close
+    (tie.spec
+    (λ c. search needs)
+    (λ c. search needs)
+    (λ c. search needs)
+    (λ c κs. search needs)
+    (λ c. search needs)
+    (λ c. search needs)
+    (λ c. search needs)
+    (λ c. search needs)
+    (λ c. search needs)
+    (λ c. search needs)
+    (λ c. simp (sym (c .before .has .ensures) ∙ c .if1 .taken, c .before .before .before .self .given .1))
+    (λ c. simp (sym (c .before .has .ensures) ∙ c .if1 .left, c .before .before .before .self .given .1))
+    (λ c. search needs)
+    (λ c. search needs)
+    (λ c. search needs)
+    (λ c. search needs))

@@ -1,0 +1,23 @@
+use borrow.Author.Needs.{needs}
+use Rattle.party.proofs.coordinator.Coordinator.restart.Statement.{statement}
+use Rattle.party.proofs.coordinator.Coordinator.restart.Tie as tie
+
+pub restart-spec : {M : Type 1} → statement M
+restart-spec =
+    tie.close
+    (tie.spec
+    (λ c. search needs)
+    (λ c. search needs)
+    (λ c. search needs)
+    (λ c. search needs)
+    (λ c. search needs)
+    (λ c. search needs)
+    (λ c κs. search needs)
+    (λ c. search needs)
+    (λ c. search needs)
+    (λ c. search needs)
+    (λ c. search needs)
+    (λ c. search needs)
+    (λ c. search needs)
+    (λ c. simp (c .to .ensures, c .before .enum-told6 .given .1))
+    (λ c. search needs))

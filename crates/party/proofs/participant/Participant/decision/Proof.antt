@@ -1,0 +1,29 @@
+use borrow.Author.Needs.{needs}
+use Rattle.party.proofs.participant.Participant.decision.Statement.{statement}
+use Rattle.party.proofs.participant.Participant.decision.Tie as tie
+
+pub decision-spec : {M : Type 1} → statement M
+decision-spec =
+    tie.close
+    (tie.spec
+    (λ c. search needs)
+    (λ c. search needs)
+    (λ c. search needs)
+    (λ c. search needs)
+    (λ c κs. search needs)
+    (λ c. search needs)
+    (λ c. search needs)
+    (λ c. search needs)
+    (λ c. search needs)
+    (λ c. search needs)
+    (λ c. search needs)
+    (λ c. search needs)
+    (λ c. search needs)
+    (λ c. search needs)
+    (λ c. search needs)
+    (λ c. simp (c .before .self .given .1))
+    (λ c. search needs)
+    (λ c. search needs)
+    (λ c. search needs)
+    (λ c. search needs)
+    (λ c. search needs))

@@ -1,0 +1,38 @@
+use mathlib.Core.Path.{sym, ap, _∙_}
+use Prim.Native.Nat.{ℕ}
+use Rattle.mask.specs.Mask.{has}
+use borrow.Author.Needs.{needs}
+use Rattle.party.proofs.participant.Participant.pending.Statement.{statement}
+use Rattle.party.proofs.participant.Participant.pending.Tie as tie
+
+pub pending-spec : {M : Type 1} → statement M
+pending-spec =
+    tie.close
+    (tie.spec
+    (λ c. search needs)
+    (λ c. search needs)
+    (λ c κs. search needs)
+    (λ c. search needs)
+    (λ c κs. search needs)
+    (λ c. search needs)
+    (λ c. search needs)
+    (λ c κs. search needs)
+    (λ c κs. search needs)
+    (λ c. search needs)
+    (λ c κs. search needs)
+    (λ c. search needs)
+    (λ c κs. search needs)
+    (λ c. search needs)
+    (λ c. search needs)
+    (λ c. search needs)
+    (λ c. search needs)
+    (λ c. simp (c .own-call .ensures, c .before .enum-told2 .given .1))
+    (λ c. simp (c .own-call2 .ensures, c .before .enum-told3 .given .1))
+    (λ c. search needs)
+    (λ c. simp (ap (λ (m : ℕ). has (c .before .before .before .before .before .before .args .j) m) (sym (c .before .before .insert .ensures)) ∙ sym (c .before .has .ensures) ∙ c .if1 .taken, c .before .before .before .before .self .given .1))
+    (λ c. simp (ap (λ (m : ℕ). has (c .before .before .before .before .before .before .args .j) m) (sym (c .before .before .insert .ensures)) ∙ sym (c .before .has .ensures) ∙ c .if1 .left, c .before .before .before .before .self .given .1))
+    (λ c. simp (c .own-call3 .ensures, c .before .enum-told5 .given .1))
+    (λ c. simp (c .own-call4 .ensures, c .before .enum-told6 .given .1))
+    (λ c. search needs)
+    (λ c. search needs)
+    (λ c. search needs))

@@ -1,0 +1,17 @@
+use borrow.Author.Needs.{needs}
+use Rattle.party.proofs.participant.commit_answered.Statement.{statement}
+use Rattle.party.proofs.participant.commit_answered.Tie as tie
+
+pub commit-answered-spec : {M : Type 1} → statement M
+commit-answered-spec =
+    tie.close
+    (tie.spec
+    (λ c. search needs)
+    (λ c. search needs)
+    (λ c. search needs)
+    (λ c. search needs)
+    (λ c κs. search needs)
+    (λ c. search needs)
+    (λ c. search needs)
+    (λ c. search needs)
+    (λ c. simp (c .to .ensures, c .before .enum-told4 .given .1)))

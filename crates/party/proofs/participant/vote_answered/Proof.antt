@@ -1,0 +1,16 @@
+use borrow.Author.Needs.{needs}
+use Rattle.party.proofs.participant.vote_answered.Statement.{statement}
+use Rattle.party.proofs.participant.vote_answered.Tie as tie
+
+pub vote-answered-spec : {M : Type 1} → statement M
+vote-answered-spec =
+    tie.close
+    (tie.spec
+    (λ c. search needs)
+    (λ c. search needs)
+    (λ c. search needs)
+    (λ c. search needs)
+    (λ c. search needs)
+    (λ c. simp (c .enum-told2 .given .1))
+    (λ c. simp (c .enum-told3 .given .1))
+    (λ c. search needs))

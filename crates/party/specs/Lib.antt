@@ -1,0 +1,4 @@
+pub mod Types
+pub mod Message
+pub mod Participant
+pub mod Coordinator

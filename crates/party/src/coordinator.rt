@@ -1,0 +1,202 @@
+// The coordinator. `i` is the place of the participant that replies, `j` the place of a log; `n` is the number of participants.
+use super::Message;
+use super::Sent;
+use store::Call;
+use store::LogRecord;
+ghost use mathlib.Core.Path.{_≡_};
+ghost use Prim.Native.Nat.{_≤_, _<_};
+ghost use Rattle.party.specs.Coordinator.{to, enters, onStart, unlessFull, onReplyYes, onReplyAbort, onTimeout, pending, onHeard, onAnswer, onCrash, onRestart};
+
+// The coordinator in its state. Waiting and terminating, it has the mask of the participants heard.
+pub enum Coordinator {
+    Idle,
+    Waiting(u32),
+    Terminating(u32),
+    Commit,
+    Abort,
+    Down,
+    Retired,
+}
+
+// What an event leads to. What it sends goes to all participants.
+pub enum Transition {
+    NotDue,
+    To(Coordinator, Sent),
+}
+
+fn to(c: Coordinator) -> Transition
+    ensures { λ t. ⌜ t ≡ to c ⌝ }
+{
+    Transition::To(c, Sent::Nothing)
+}
+
+impl Coordinator {
+    // Entering commit or abort sends that decision.
+    fn enters(self) -> Transition
+        ensures { λ t. ⌜ t ≡ enters self ⌝ }
+    {
+        match self {
+            Coordinator::Idle => to(self),
+            Coordinator::Waiting(_) => to(self),
+            Coordinator::Terminating(_) => to(self),
+            Coordinator::Commit => Transition::To(self, Sent::Sends(Message::Commit)),
+            Coordinator::Abort => Transition::To(self, Sent::Sends(Message::Abort)),
+            Coordinator::Down => to(self),
+            Coordinator::Retired => to(self),
+        }
+    }
+
+    // Commit where all are heard, else this state.
+    fn unless_full(self, n: u32, heard: u32) -> Coordinator
+        requires { ⌜ n ≤ 32 ⌝ }
+        ensures { λ c. ⌜ c ≡ unlessFull n heard self ⌝ }
+    {
+        if heard == mask::full(n) {
+            Coordinator::Commit
+        } else {
+            self
+        }
+    }
+
+    pub fn start(self) -> Transition
+        ensures { λ t. ⌜ t ≡ onStart self ⌝ }
+    {
+        match self {
+            Coordinator::Idle => Transition::To(
+                Coordinator::Waiting(0),
+                Sent::Sends(Message::Request),
+            ),
+            Coordinator::Waiting(_) => Transition::NotDue,
+            Coordinator::Terminating(_) => Transition::NotDue,
+            Coordinator::Commit => Transition::NotDue,
+            Coordinator::Abort => Transition::NotDue,
+            Coordinator::Down => Transition::NotDue,
+            Coordinator::Retired => Transition::NotDue,
+        }
+    }
+
+    // A yes reply of participant i.
+    pub fn reply_yes(self, n: u32, i: u32) -> Transition
+        requires { ⌜ (n ≤ 32) × (i < 32) ⌝ }
+        ensures { λ t. ⌜ t ≡ onReplyYes n i self ⌝ }
+    {
+        match self {
+            Coordinator::Idle => to(self),
+            Coordinator::Waiting(h) => {
+                let heard = mask::insert(h, i);
+                Coordinator::Waiting(heard).unless_full(n, heard).enters()
+            }
+            Coordinator::Terminating(_) => to(self),
+            Coordinator::Commit => to(self),
+            Coordinator::Abort => to(self),
+            Coordinator::Down => to(self),
+            Coordinator::Retired => to(self),
+        }
+    }
+
+    pub fn reply_abort(self) -> Transition
+        ensures { λ t. ⌜ t ≡ onReplyAbort self ⌝ }
+    {
+        match self {
+            Coordinator::Idle => to(self),
+            Coordinator::Waiting(_) => Coordinator::Abort.enters(),
+            Coordinator::Terminating(_) => to(self),
+            Coordinator::Commit => to(self),
+            Coordinator::Abort => to(self),
+            Coordinator::Down => to(self),
+            Coordinator::Retired => to(self),
+        }
+    }
+
+    pub fn timeout(self) -> Transition
+        ensures { λ t. ⌜ t ≡ onTimeout self ⌝ }
+    {
+        match self {
+            Coordinator::Idle => Transition::NotDue,
+            Coordinator::Waiting(_) => to(Coordinator::Terminating(0)),
+            Coordinator::Terminating(_) => to(Coordinator::Terminating(0)),
+            Coordinator::Commit => Transition::NotDue,
+            Coordinator::Abort => Transition::NotDue,
+            Coordinator::Down => Transition::NotDue,
+            Coordinator::Retired => Transition::NotDue,
+        }
+    }
+
+    // The call pending on log j.
+    pub fn pending(self, j: u32) -> Call
+        ensures { λ c. ⌜ c ≡ pending self j ⌝ }
+    {
+        match self {
+            Coordinator::Idle => Call::None,
+            Coordinator::Waiting(_) => Call::None,
+            Coordinator::Terminating(h) => if mask::has(h, j) {
+                Call::None
+            } else {
+                Call::LogOnce(LogRecord::Abort)
+            },
+            Coordinator::Commit => Call::None,
+            Coordinator::Abort => Call::None,
+            Coordinator::Down => Call::None,
+            Coordinator::Retired => Call::None,
+        }
+    }
+
+    // The answer that log j gives to the call pending there.
+    pub fn answer(self, n: u32, j: u32, r: LogRecord) -> Transition
+        requires { ⌜ (n ≤ 32) × (j < 32) ⌝ }
+        ensures { λ t. ⌜ t ≡ onAnswer n self j r ⌝ }
+    {
+        match self {
+            Coordinator::Idle => Transition::NotDue,
+            Coordinator::Waiting(_) => Transition::NotDue,
+            Coordinator::Terminating(h) => heard_answered(n, mask::insert(h, j), r),
+            Coordinator::Commit => Transition::NotDue,
+            Coordinator::Abort => Transition::NotDue,
+            Coordinator::Down => Transition::NotDue,
+            Coordinator::Retired => Transition::NotDue,
+        }
+    }
+
+    pub fn crash(self) -> Transition
+        ensures { λ t. ⌜ t ≡ onCrash self ⌝ }
+    {
+        match self {
+            Coordinator::Idle => to(Coordinator::Down),
+            Coordinator::Waiting(_) => to(Coordinator::Down),
+            Coordinator::Terminating(_) => to(Coordinator::Down),
+            Coordinator::Commit => to(Coordinator::Down),
+            Coordinator::Abort => to(Coordinator::Down),
+            Coordinator::Down => Transition::NotDue,
+            Coordinator::Retired => to(Coordinator::Down),
+        }
+    }
+
+    pub fn restart(self) -> Transition
+        ensures { λ t. ⌜ t ≡ onRestart self ⌝ }
+    {
+        match self {
+            Coordinator::Idle => Transition::NotDue,
+            Coordinator::Waiting(_) => Transition::NotDue,
+            Coordinator::Terminating(_) => Transition::NotDue,
+            Coordinator::Commit => Transition::NotDue,
+            Coordinator::Abort => Transition::NotDue,
+            Coordinator::Down => to(Coordinator::Retired),
+            Coordinator::Retired => Transition::NotDue,
+        }
+    }
+}
+
+// LogOnce(abort) answered in terminating; the heard mask is the one with that log.
+fn heard_answered(n: u32, heard: u32, r: LogRecord) -> Transition
+    requires { ⌜ n ≤ 32 ⌝ }
+    ensures { λ t. ⌜ t ≡ onHeard n heard r ⌝ }
+{
+    match r {
+        LogRecord::None => Transition::NotDue,
+        LogRecord::Yes => Coordinator::Terminating(heard)
+            .unless_full(n, heard)
+            .enters(),
+        LogRecord::Abort => Coordinator::Abort.enters(),
+        LogRecord::Commit => Coordinator::Commit.enters(),
+    }
+}
