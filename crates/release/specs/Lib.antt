@@ -1,0 +1,7 @@
+pub mod Types
+pub mod State
+pub mod Report
+pub mod Step
+pub mod Run
+pub mod Demand
+pub mod Range

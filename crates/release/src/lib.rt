@@ -1,0 +1,56 @@
+// One release: its parties, their logs and the messages in flight; the steps; and what a step reports.
+use party::Message;
+use party::coordinator::Coordinator;
+use party::participant::Participant;
+use store::LOGS;
+use store::Store;
+
+// How many types of messages there are.
+pub const TYPES: usize = 5;
+
+// How many parties a release has room for: the coordinator, and a participant for each log.
+pub const PARTIES: usize = LOGS + 1;
+
+// A participant's place.
+pub struct Site {
+    pub participant: Participant,
+}
+
+// The whole state of a release. Message type t has its mask at t - 1, participant p its place at p - 1, and party p its count of due store
+// calls at p.
+pub struct Release {
+    pub n: u32,
+    pub votes: u32,
+    pub coordinator: Coordinator,
+    pub messages: [u32; TYPES],
+    pub sites: [Site; LOGS],
+    pub store: Store,
+    pub calls: [u16; PARTIES],
+}
+
+// A step, by its kind. A message goes by its type and participant, a call by its party and log; all are numbers as in a schedule.
+pub enum Step {
+    Start,
+    Deliver(Message, u32),
+    Copy(Message, u32),
+    Lose(Message, u32),
+    Call(u32, u32),
+    CallLost(u32, u32),
+    Timeout(u32),
+    Crash(u32),
+    Restart(u32),
+}
+
+// What a step reports.
+pub enum Outcome {
+    Idle,
+    Moved,
+    Commit,
+    Abort,
+}
+
+// A step's outcome, and the release after it.
+pub struct Report {
+    pub outcome: Outcome,
+    pub next: Release,
+}
