@@ -3,3 +3,10 @@ pub mod Causes
 pub mod Invariant
 pub mod Updates
 pub mod Calls
+pub mod Transitions
+pub mod Safety
+pub mod Agreement
+pub mod Rank
+pub mod Due
+pub mod Progress
+pub mod Readiness
