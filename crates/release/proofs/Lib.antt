@@ -10,3 +10,5 @@ pub mod Rank
 pub mod Due
 pub mod Progress
 pub mod Readiness
+pub mod Unanimity
+pub mod Demand
