@@ -12,3 +12,4 @@ pub mod Progress
 pub mod Readiness
 pub mod Unanimity
 pub mod Demand
+pub mod Reached

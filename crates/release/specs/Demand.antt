@@ -6,6 +6,7 @@ use mathlib.Core.Bool.{Bool, true, false, cond, _&&_}
 use mathlib.Core.List.{List, [], _∷_, _++_, List·Memᴰ}
 use Prim.Native.Nat.{ℕ, zero, suc, _+_, _≤_, _<_}
 use lib.Dec.{eqb}
+use lib.ListN.{length}
 use Rattle.mask.specs.Mask.{full}
 use Rattle.release.specs.State.{participantOf, firstOf, lastOf, fresh}
 use Rattle.release.specs.Step.{step, isDue}
@@ -136,3 +137,6 @@ pub record Cut (r : Release) (crashed : List ℕ) (t : Release) : Type 0 where
   pub coordinator-kept : (List·Memᴰ 0 crashed → ⊥) → t .coordinator ≡ r .coordinator
   pub down : (i : ℕ) → i < r .n → List·Memᴰ (suc i) crashed → participantOf t i ≡ Down
   pub kept : (i : ℕ) → (List·Memᴰ (suc i) crashed → ⊥) → participantOf t i ≡ participantOf r i
+
+abbrev pub CutStands : Type 0
+CutStands = (r : Release) (crashed : List ℕ) → AllParties (r .n) crashed → r .n ≤ length (r .sites) → Cut r crashed (after r (crashes crashed))
