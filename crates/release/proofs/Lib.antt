@@ -13,3 +13,4 @@ pub mod Readiness
 pub mod Unanimity
 pub mod Demand
 pub mod Reached
+pub mod Cut
