@@ -1,5 +1,5 @@
 -- One log: its records, the pairs allowed, and the two calls. The rules of a release and the log entries cite them. Assumes nothing.
-use mathlib.Core.Bool.{Bool, true, false}
+use mathlib.Core.Bool.{Bool, true, false, cond}
 use Prim.Native.Nat.{ℕ}
 use Rattle.store.specs.Types.{LogRecord, None, Yes, Abort, Commit, LogPair, Call, Logged, Performed}
 
@@ -47,23 +47,20 @@ abbrev pub logOnce : LogRecord → LogPair → Logged
 logOnce r l = leaves (onceOn (l .first) r l)
 
 -- Log: takes abort or commit and replaces the last record. Refused on an empty log, commit after abort, abort after commit
-abbrev pub ended : LogRecord → LogPair → Performed
-ended r l = Performed.Done (leaves (record { first = l .first; last = r }))
-
-abbrev pub logAfter : LogRecord → LogRecord → LogPair → Performed
-logAfter None last l = Performed.Refused
-logAfter Yes last l = Performed.Refused
-logAfter Abort None l = Performed.Refused
-logAfter Abort Yes l = ended Abort l
-logAfter Abort Abort l = ended Abort l
-logAfter Abort Commit l = Performed.Refused
-logAfter Commit None l = Performed.Refused
-logAfter Commit Yes l = ended Commit l
-logAfter Commit Abort l = Performed.Refused
-logAfter Commit Commit l = ended Commit l
+abbrev pub replaces : LogRecord → LogRecord → Bool
+replaces None last = false
+replaces Yes last = false
+replaces Abort None = false
+replaces Abort Yes = true
+replaces Abort Abort = true
+replaces Abort Commit = false
+replaces Commit None = false
+replaces Commit Yes = true
+replaces Commit Abort = false
+replaces Commit Commit = true
 
 abbrev pub log : LogRecord → LogPair → Performed
-log r l = logAfter r (l .last) l
+log r l = cond (replaces r (l .last)) (Performed.Done (leaves (record { first = l .first; last = r }))) Performed.Refused
 
 -- what a party's call makes of a log
 abbrev pub perform : Call → LogPair → Performed

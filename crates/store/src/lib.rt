@@ -1,7 +1,7 @@
 // The store: write-once logs, the calls LogOnce and Log, and the two log entries.
 ghost use mathlib.Core.Path.{_≡_};
 ghost use lib.ListN.{getD, set};
-ghost use Rattle.store.specs.Log.{empty, isAllowed, logOnce, ended, log, perform};
+ghost use Rattle.store.specs.Log.{empty, isAllowed, logOnce, replaces, log, perform};
 ghost use Rattle.store.specs.Entry.{handed, logOnceEntry, logHands, logEntry};
 
 // How many logs a store has: one for each participant that it has room for.
@@ -109,40 +109,44 @@ impl LogPair {
         }
     }
 
-    // The log with another last record.
-    fn ending(self, r: LogRecord) -> Performed
-        ensures { λ p. ⌜ p ≡ ended r self ⌝ }
+    // Whether Log of a record may replace the last one.
+    fn replaceable(self, r: LogRecord) -> bool
+        ensures { λ b. ⌜ b ≡ replaces r (self .last) ⌝ }
     {
-        let first = self.first;
-        Performed::Done(Logged {
-            answer: r,
-            log: LogPair {
-                first: first,
-                last: r,
+        let last = self.last;
+        match r {
+            LogRecord::None => false,
+            LogRecord::Yes => false,
+            LogRecord::Abort => match last {
+                LogRecord::None => false,
+                LogRecord::Yes => true,
+                LogRecord::Abort => true,
+                LogRecord::Commit => false,
             },
-        })
+            LogRecord::Commit => match last {
+                LogRecord::None => false,
+                LogRecord::Yes => true,
+                LogRecord::Abort => false,
+                LogRecord::Commit => true,
+            },
+        }
     }
 
     // Log of any record.
     pub fn log(self, r: LogRecord) -> Performed
         ensures { λ p. ⌜ p ≡ log r self ⌝ }
     {
-        let last = self.last;
-        match r {
-            LogRecord::None => Performed::Refused,
-            LogRecord::Yes => Performed::Refused,
-            LogRecord::Abort => match last {
-                LogRecord::None => Performed::Refused,
-                LogRecord::Yes => self.ending(LogRecord::Abort),
-                LogRecord::Abort => self.ending(LogRecord::Abort),
-                LogRecord::Commit => Performed::Refused,
-            },
-            LogRecord::Commit => match last {
-                LogRecord::None => Performed::Refused,
-                LogRecord::Yes => self.ending(LogRecord::Commit),
-                LogRecord::Abort => Performed::Refused,
-                LogRecord::Commit => self.ending(LogRecord::Commit),
-            },
+        let first = self.first;
+        if self.replaceable(r) {
+            Performed::Done(Logged {
+                answer: r,
+                log: LogPair {
+                    first: first,
+                    last: r,
+                },
+            })
+        } else {
+            Performed::Refused
         }
     }
 

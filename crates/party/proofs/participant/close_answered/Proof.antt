@@ -1,3 +1,4 @@
+-- `party::participant::close_answered` meets its contract, case by case. Assumes nothing.
 use borrow.Author.Needs.{needs}
 use Rattle.party.proofs.participant.close_answered.Statement.{statement}
 use Rattle.party.proofs.participant.close_answered.Tie as tie

@@ -1,3 +1,4 @@
+-- `party::participant::own_call` meets its contract, case by case. Assumes nothing.
 use borrow.Author.Tests.{eq-eqb, ne-eqb}
 use Rattle.party.proofs.participant.own_call.Statement.{statement}
 use Rattle.party.proofs.participant.own_call.Tie as tie

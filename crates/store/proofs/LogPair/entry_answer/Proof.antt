@@ -1,3 +1,4 @@
+-- `store::LogPair::entry_answer` meets its contract, case by case. Assumes nothing.
 use borrow.Author.Needs.{needs}
 use Rattle.store.proofs.LogPair.entry_answer.Statement.{statement}
 use Rattle.store.proofs.LogPair.entry_answer.Tie as tie

@@ -1,3 +1,4 @@
+-- `store::LogPair::log_once` meets its contract, case by case. Assumes nothing.
 use borrow.Author.Needs.{needs}
 use Rattle.store.proofs.LogPair.log_once.Statement.{statement}
 use Rattle.store.proofs.LogPair.log_once.Tie as tie

@@ -1,3 +1,4 @@
+-- `store::LogPair::log_once_entry` meets its contract, case by case. Assumes nothing.
 use mathlib.Core.Path.{sym, _∙_}
 use borrow.Author.Needs.{needs}
 use Rattle.store.proofs.LogPair.log_once_entry.Statement.{statement}

@@ -1,3 +1,4 @@
+-- `store::LogPair::perform` meets its contract, case by case. Assumes nothing.
 use borrow.Author.Needs.{needs}
 use Rattle.store.proofs.LogPair.perform.Statement.{statement}
 use Rattle.store.proofs.LogPair.perform.Tie as tie

@@ -1,3 +1,4 @@
+-- `party::coordinator::Coordinator::answer` meets its contract, case by case. Assumes nothing.
 use borrow.Author.Needs.{needs}
 use Rattle.party.proofs.coordinator.Coordinator.answer.Statement.{statement}
 use Rattle.party.proofs.coordinator.Coordinator.answer.Tie as tie

@@ -1,3 +1,4 @@
+-- `party::coordinator::Coordinator::crash` meets its contract, case by case. Assumes nothing.
 use borrow.Author.Needs.{needs}
 use Rattle.party.proofs.coordinator.Coordinator.crash.Statement.{statement}
 use Rattle.party.proofs.coordinator.Coordinator.crash.Tie as tie

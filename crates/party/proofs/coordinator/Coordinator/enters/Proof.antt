@@ -1,3 +1,4 @@
+-- `party::coordinator::Coordinator::enters` meets its contract, case by case. Assumes nothing.
 use borrow.Author.Needs.{needs}
 use Rattle.party.proofs.coordinator.Coordinator.enters.Statement.{statement}
 use Rattle.party.proofs.coordinator.Coordinator.enters.Tie as tie

@@ -1,3 +1,4 @@
+-- `party::coordinator::Coordinator::pending` meets its contract, case by case. Assumes nothing.
 use mathlib.Core.Path.{sym, _∙_}
 use borrow.Author.Needs.{needs}
 use Rattle.party.proofs.coordinator.Coordinator.pending.Statement.{statement}

@@ -1,3 +1,4 @@
+-- `party::coordinator::Coordinator::reply_abort` meets its contract, case by case. Assumes nothing.
 use borrow.Author.Needs.{needs}
 use Rattle.party.proofs.coordinator.Coordinator.reply_abort.Statement.{statement}
 use Rattle.party.proofs.coordinator.Coordinator.reply_abort.Tie as tie

@@ -1,3 +1,4 @@
+-- `party::coordinator::Coordinator::restart` meets its contract, case by case. Assumes nothing.
 use borrow.Author.Needs.{needs}
 use Rattle.party.proofs.coordinator.Coordinator.restart.Statement.{statement}
 use Rattle.party.proofs.coordinator.Coordinator.restart.Tie as tie

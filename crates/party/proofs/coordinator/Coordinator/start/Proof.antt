@@ -1,3 +1,4 @@
+-- `party::coordinator::Coordinator::start` meets its contract, case by case. Assumes nothing.
 use borrow.Author.Needs.{needs}
 use Rattle.party.proofs.coordinator.Coordinator.start.Statement.{statement}
 use Rattle.party.proofs.coordinator.Coordinator.start.Tie as tie

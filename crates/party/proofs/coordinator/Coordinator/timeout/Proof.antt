@@ -1,3 +1,4 @@
+-- `party::coordinator::Coordinator::timeout` meets its contract, case by case. Assumes nothing.
 use borrow.Author.Needs.{needs}
 use Rattle.party.proofs.coordinator.Coordinator.timeout.Statement.{statement}
 use Rattle.party.proofs.coordinator.Coordinator.timeout.Tie as tie

@@ -1,3 +1,4 @@
+-- `party::coordinator::Coordinator::unless_full` meets its contract: the test compares with the full set. Assumes nothing.
 use mathlib.Core.Path.{sym, _∙_}
 use borrow.Author.Tests.{eq-eqb, ne-eqb}
 use borrow.Author.Needs.{needs}

@@ -1,3 +1,4 @@
+-- `party::participant::Participant::answer` meets its contract, case by case. Assumes nothing.
 use borrow.Author.Needs.{needs}
 use Rattle.party.proofs.participant.Participant.answer.Statement.{statement}
 use Rattle.party.proofs.participant.Participant.answer.Tie as tie

@@ -1,3 +1,4 @@
+-- `party::participant::Participant::crash` meets its contract, case by case. Assumes nothing.
 use borrow.Author.Needs.{needs}
 use Rattle.party.proofs.participant.Participant.crash.Statement.{statement}
 use Rattle.party.proofs.participant.Participant.crash.Tie as tie

@@ -1,3 +1,4 @@
+-- `party::participant::Participant::decision` meets its contract, case by case. Assumes nothing.
 use borrow.Author.Needs.{needs}
 use Rattle.party.proofs.participant.Participant.decision.Statement.{statement}
 use Rattle.party.proofs.participant.Participant.decision.Tie as tie

@@ -1,3 +1,4 @@
+-- `party::participant::Participant::pending` meets its contract: on another log, the test is that of the mask with one's own place. Assumes nothing.
 use mathlib.Core.Path.{sym, ap, _∙_}
 use Prim.Native.Nat.{ℕ}
 use Rattle.mask.specs.Mask.{has}

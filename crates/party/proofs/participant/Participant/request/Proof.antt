@@ -1,3 +1,4 @@
+-- `party::participant::Participant::request` meets its contract, case by case. Assumes nothing.
 use borrow.Author.Needs.{needs}
 use Rattle.party.proofs.participant.Participant.request.Statement.{statement}
 use Rattle.party.proofs.participant.Participant.request.Tie as tie

@@ -1,3 +1,4 @@
+-- `party::participant::Participant::restart` meets its contract, case by case. Assumes nothing.
 use borrow.Author.Needs.{needs}
 use Rattle.party.proofs.participant.Participant.restart.Statement.{statement}
 use Rattle.party.proofs.participant.Participant.restart.Tie as tie

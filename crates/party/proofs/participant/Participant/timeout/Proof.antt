@@ -1,3 +1,4 @@
+-- `party::participant::Participant::timeout` meets its contract, case by case. Assumes nothing.
 use borrow.Author.Needs.{needs}
 use Rattle.party.proofs.participant.Participant.timeout.Statement.{statement}
 use Rattle.party.proofs.participant.Participant.timeout.Tie as tie
