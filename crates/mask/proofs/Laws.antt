@@ -1,7 +1,7 @@
 -- Laws of masks, for any place and any width. Assumes nothing.
 use mathlib.Core.Path.{_≡_, refl, sym, ap, _∙_}
 use mathlib.Core.Logic.{_≢_}
-use mathlib.Core.Bool.{Bool, true, false, true≢false}
+use mathlib.Core.Bool.{Bool, true, false, _||_, true≢false}
 use Prim.Native.Nat.{ℕ, zero, suc, _+_, _-_, _*_, _/_, _%_, _^_, _≤_, _<_}
 use native.Mathlib.Nat.{pow-suc, pow-zero, div-one, one-mul}
 use native.Mathlib.Numerals.{one-add}
@@ -141,6 +141,14 @@ not-inserted i j m h e = true≢false (sym (has-insert-same i m) ∙ ap (λ (k :
 
 pub not-member : (i j m : ℕ) → has j (insert i m) ≡ false → has j m ≡ false
 not-member i j m h = sym (has-insert-other i j m (not-inserted i j m h)) ∙ h
+
+-- another place, not a member: neither the one inserted nor an old one
+pub has-insert-neither : (i j m : ℕ) → (eqb j i || has j m) ≡ false → has j (insert i m) ≡ false
+has-insert-neither i j m = go (eqb j i) refl
+  where
+    go : (b : Bool) → eqb j i ≡ b → (b || has j m) ≡ false → has j (insert i m) ≡ false
+    go true q h = absurd (true≢false h)
+    go false q h = has-insert-other i j m (eqb-false j i q) ∙ h
 
 -- a member after a removal was one before
 pub has-remove : (i j m : ℕ) → has j (remove i m) ≡ true → has j m ≡ true

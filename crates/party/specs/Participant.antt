@@ -1,6 +1,6 @@
 -- The rules of a participant, in document 01's order. `n` is the number of participants, `own` the participant's place (its number less one),
 -- `j` the place of a log, `h` a heard mask. Assumes nothing.
-use mathlib.Core.Bool.{Bool, true, false, cond}
+use mathlib.Core.Bool.{Bool, cond, _||_}
 use Prim.Native.Nat.{ℕ}
 use lib.Dec.{eqb}
 use Rattle.mask.specs.Mask.{has, insert, full}
@@ -60,12 +60,15 @@ onDecision d Down = Down
 abbrev pub ownCall : ℕ → ℕ → Call → Call
 ownCall own j c = cond (eqb j own) c Call.None
 
+abbrev pub otherCall : ℕ → ℕ → ℕ → Call
+otherCall own h j = cond (eqb j own || has j h) Call.None (Call.LogOnce Abort)
+
 abbrev pub pending : ℕ → Participant → ℕ → Call
 pending own Waiting j = Call.None
 pending own VotingYes j = ownCall own j (Call.LogOnce Yes)
 pending own Closing j = ownCall own j (Call.LogOnce Abort)
 pending own Uncertain j = Call.None
-pending own (Terminating h) j = cond (has j (insert own h)) Call.None (Call.LogOnce Abort)
+pending own (Terminating h) j = otherCall own h j
 pending own RecordingCommit j = ownCall own j (Call.Log Commit)
 pending own RecordingAbort j = ownCall own j (Call.Log Abort)
 pending own DoneCommit j = Call.None

@@ -6,7 +6,7 @@ use store::Call;
 use store::LogRecord;
 ghost use mathlib.Core.Path.{_≡_};
 ghost use Prim.Native.Nat.{_≤_, _<_};
-ghost use Rattle.party.specs.Participant.{to, onRequest, recording, onDecision, ownCall, pending, terminating, onVote, onClose, onHeard, onCommitRecorded, onAbortRecorded, onAnswer, onTimeout, onCrash, onRestart};
+ghost use Rattle.party.specs.Participant.{to, onRequest, recording, onDecision, ownCall, otherCall, pending, terminating, onVote, onClose, onHeard, onCommitRecorded, onAbortRecorded, onAnswer, onTimeout, onCrash, onRestart};
 
 // A participant in its state. Terminating, it has the mask of the participants heard.
 pub enum Participant {
@@ -99,7 +99,6 @@ impl Participant {
 
     // The call pending on log j.
     pub fn pending(self, own: u32, j: u32) -> Call
-        requires { ⌜ own < 32 ⌝ }
         ensures { λ c. ⌜ c ≡ pending own self j ⌝ }
     {
         match self {
@@ -107,11 +106,7 @@ impl Participant {
             Participant::VotingYes => own_call(own, j, Call::LogOnce(LogRecord::Yes)),
             Participant::Closing => own_call(own, j, Call::LogOnce(LogRecord::Abort)),
             Participant::Uncertain => Call::None,
-            Participant::Terminating(h) => if mask::has(mask::insert(h, own), j) {
-                Call::None
-            } else {
-                Call::LogOnce(LogRecord::Abort)
-            },
+            Participant::Terminating(h) => other_call(own, h, j),
             Participant::RecordingCommit => own_call(own, j, Call::Log(LogRecord::Commit)),
             Participant::RecordingAbort => own_call(own, j, Call::Log(LogRecord::Abort)),
             Participant::DoneCommit => Call::None,
@@ -197,6 +192,21 @@ fn own_call(own: u32, j: u32, c: Call) -> Call
     ensures { λ r. ⌜ r ≡ ownCall own j c ⌝ }
 {
     if j == own { c } else { Call::None }
+}
+
+// LogOnce(abort) on another, unheard log.
+fn other_call(own: u32, heard: u32, j: u32) -> Call
+    ensures { λ r. ⌜ r ≡ otherCall own heard j ⌝ }
+{
+    if j == own {
+        Call::None
+    } else {
+        if mask::has(heard, j) {
+            Call::None
+        } else {
+            Call::LogOnce(LogRecord::Abort)
+        }
+    }
 }
 
 // The answers, state by state: LogOnce(yes) in voting yes,

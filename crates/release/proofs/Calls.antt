@@ -1,12 +1,13 @@
 -- What a log says, and what a call makes of it. Assumes nothing.
 use mathlib.Core.Path.{_≡_, refl}
 use mathlib.Core.Logic.{_≢_}
-use mathlib.Core.Bool.{false}
+use mathlib.Core.Bool.{false, _||_}
 use Prim.Native.Nat.{ℕ, _<_}
 use native.Mathlib.Omega.{arith}
 use lib.Dec.{eqb}
 use borrow.Author.Tests.{eqb-true}
 use Rattle.mask.specs.Mask.{has, insert}
+use Rattle.mask.proofs.Laws.{has-insert-neither}
 use Rattle.store.specs.Log.{logOnce, perform}
 use Rattle.party.specs.Participant
 use Rattle.party.specs.Coordinator
@@ -174,7 +175,7 @@ module _ (n : ℕ) (F : ℕ → LogRecord) (P : ℕ → Participant) (i j : ℕ)
   pending-fits Closing q k = own-pends Closing (Call.LogOnce Abort) (λ e. (tt, e))
   pending-fits Uncertain q k = tt
   pending-fits (Terminating h) q k =
-      cond-cases (Pends n F P i (Terminating h) j) (has j (insert i h)) Call.None (Call.LogOnce Abort) (λ t. tt) (λ t. (tt, t))
+      cond-cases (Pends n F P i (Terminating h) j) (eqb j i || has j h) Call.None (Call.LogOnce Abort) (λ t. tt) (λ t. (tt, has-insert-neither i j h t))
   pending-fits RecordingCommit q k =
       own-pends RecordingCommit (Call.Log Commit) (λ e. (record { free = λ x. rw (e, q) tt; known = k }, e))
   pending-fits RecordingAbort q k =

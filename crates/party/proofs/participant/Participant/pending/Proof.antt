@@ -1,7 +1,4 @@
--- `party::participant::Participant::pending` meets its contract: on another log, the test is that of the mask with one's own place. Assumes nothing.
-use mathlib.Core.Path.{sym, ap, _∙_}
-use Prim.Native.Nat.{ℕ}
-use Rattle.mask.specs.Mask.{has}
+-- `party::participant::Participant::pending` meets its contract, case by case. Assumes nothing.
 use borrow.Author.Needs.{needs}
 use Rattle.party.proofs.participant.Participant.pending.Statement.{statement}
 use Rattle.party.proofs.participant.Participant.pending.Tie as tie
@@ -18,7 +15,6 @@ pending-spec =
     (λ c. search needs)
     (λ c. search needs)
     (λ c κs. search needs)
-    (λ c κs. search needs)
     (λ c. search needs)
     (λ c κs. search needs)
     (λ c. search needs)
@@ -30,8 +26,7 @@ pending-spec =
     (λ c. simp (c .own-call .ensures, c .before .enum-told2 .given .1))
     (λ c. simp (c .own-call2 .ensures, c .before .enum-told3 .given .1))
     (λ c. search needs)
-    (λ c. simp (ap (λ (m : ℕ). has (c .before .before .before .before .before .before .args .j) m) (sym (c .before .before .insert .ensures)) ∙ sym (c .before .has .ensures) ∙ c .if1 .taken, c .before .before .before .before .self .given .1))
-    (λ c. simp (ap (λ (m : ℕ). has (c .before .before .before .before .before .before .args .j) m) (sym (c .before .before .insert .ensures)) ∙ sym (c .before .has .ensures) ∙ c .if1 .left, c .before .before .before .before .self .given .1))
+    (λ c. simp (c .other-call .ensures, c .before .before .self .given .1))
     (λ c. simp (c .own-call3 .ensures, c .before .enum-told5 .given .1))
     (λ c. simp (c .own-call4 .ensures, c .before .enum-told6 .given .1))
     (λ c. search needs)
