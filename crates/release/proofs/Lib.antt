@@ -8,9 +8,11 @@ pub mod Safety
 pub mod Agreement
 pub mod Rank
 pub mod Due
+pub mod DueAsWritten
 pub mod Progress
 pub mod Readiness
 pub mod Unanimity
 pub mod Demand
 pub mod Reached
 pub mod Cut
+pub mod Counts
