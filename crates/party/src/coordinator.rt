@@ -24,6 +24,7 @@ pub enum Transition {
     To(Coordinator, Sent),
 }
 
+// To a state, with nothing sent.
 fn to(c: Coordinator) -> Transition
     ensures { λ t. ⌜ t ≡ to c ⌝ }
 {
@@ -186,7 +187,7 @@ impl Coordinator {
     }
 }
 
-// LogOnce(abort) answered in terminating; the heard mask is the one with that log.
+// The answer to LogOnce(abort), in terminating; `heard` has that log too.
 fn heard_answered(n: u32, heard: u32, r: LogRecord) -> Transition
     requires { ⌜ n ≤ 32 ⌝ }
     ensures { λ t. ⌜ t ≡ onHeard n heard r ⌝ }

@@ -28,6 +28,7 @@ pub enum Transition {
     To(Participant, Sent),
 }
 
+// To a state, with nothing sent.
 fn to(p: Participant) -> Transition
     ensures { λ t. ⌜ t ≡ to p ⌝ }
 {
@@ -209,7 +210,7 @@ fn other_call(own: u32, heard: u32, j: u32) -> Call
     }
 }
 
-// The answers, state by state: LogOnce(yes) in voting yes,
+// The answer to LogOnce(yes), in voting yes.
 fn vote_answered(r: LogRecord) -> Transition
     ensures { λ t. ⌜ t ≡ onVote r ⌝ }
 {
@@ -224,7 +225,7 @@ fn vote_answered(r: LogRecord) -> Transition
     }
 }
 
-// LogOnce(abort) in closing,
+// The answer to LogOnce(abort), in closing.
 fn close_answered(n: u32, own: u32, r: LogRecord) -> Transition
     requires { ⌜ (own < 32) × (n ≤ 32) ⌝ }
     ensures { λ t. ⌜ t ≡ onClose n own r ⌝ }
@@ -240,7 +241,7 @@ fn close_answered(n: u32, own: u32, r: LogRecord) -> Transition
     }
 }
 
-// LogOnce(abort) on another log in terminating, heard with that log,
+// The answer to LogOnce(abort) on another log, in terminating; `heard` has that log too.
 fn heard_answered(n: u32, own: u32, heard: u32, r: LogRecord) -> Transition
     requires { ⌜ (own < 32) × (n ≤ 32) ⌝ }
     ensures { λ t. ⌜ t ≡ onHeard n own heard r ⌝ }
@@ -253,7 +254,7 @@ fn heard_answered(n: u32, own: u32, heard: u32, r: LogRecord) -> Transition
     }
 }
 
-// Log(commit) in recording commit,
+// The answer to Log(commit), in recording commit.
 fn commit_answered(r: LogRecord) -> Transition
     ensures { λ t. ⌜ t ≡ onCommitRecorded r ⌝ }
 {
@@ -265,7 +266,7 @@ fn commit_answered(r: LogRecord) -> Transition
     }
 }
 
-// and Log(abort) in recording abort.
+// The answer to Log(abort), in recording abort.
 fn abort_answered(r: LogRecord) -> Transition
     ensures { λ t. ⌜ t ≡ onAbortRecorded r ⌝ }
 {
