@@ -11,7 +11,7 @@ pub const TYPES: usize = 5;
 // How many parties a release has room for: the coordinator, and a participant for each log.
 pub const PARTIES: usize = LOGS + 1;
 
-// A participant's place.
+// A participant at its place in a release.
 pub struct Site {
     pub participant: Participant,
 }
