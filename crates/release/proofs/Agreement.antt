@@ -2,17 +2,15 @@
 -- Assumes nothing.
 use mathlib.Core.Path.{_≡_, refl, _∙_}
 use mathlib.Core.Logic.{_≢_, _⊎_, inl, inr}
-use mathlib.Core.List.{List, [], _∷_, _++_, List·Memᴰ, List·Memᴰ·cases-cons, List·Memᴰ·not-nil}
-use mathlib.Core.Bool.{false}
+use mathlib.Core.List.{List, [], _∷_, _++_, List·Memᴰ·cases-cons, List·Memᴰ·not-nil}
 use Prim.Native.Nat.{ℕ, zero, suc, _≤_}
 use native.Mathlib.Omega.{arith}
 use lib.ListN.{getD, replicate, length-replicate}
-use Rattle.mask.specs.Mask.{has}
 use Rattle.mask.proofs.Laws.{has-zero}
 use Rattle.store.specs.Log.{empty}
 use Rattle.release.specs.State.{firstOf, lastOf, logOf, maskOf, waiting, fresh}
 use Rattle.release.specs.Step.{step}
-use Rattle.release.specs.Run.{InRange, AllInRange, outcomes, after}
+use Rattle.release.specs.Run.{AllInRange, after}
 use Rattle.release.specs.Demand.{Reported}
 use Rattle.release.specs.Types.{LogRecord, None, Commit, LogPair, Message, Site, Step, Outcome, Release}
 use Rattle.release.proofs.FirstRecords.{Keeps, keeps-refl, keeps-trans, still, excluded, true-false}

@@ -1,7 +1,6 @@
 -- A release counts the due store calls of each party. Assumes nothing.
 use mathlib.Core.Path.{_≡_, refl, sym, ap, _∙_}
-use mathlib.Core.Logic.{_≢_}
-use mathlib.Core.List.{List, [], _∷_}
+use mathlib.Core.List.{[], _∷_}
 use mathlib.Core.Bool.{Bool, true, false, cond, _&&_}
 use Prim.Native.Nat.{ℕ, zero, suc, _+_, _<_}
 use native.Mathlib.Omega.{arith}
@@ -14,7 +13,7 @@ use Rattle.party.specs.Coordinator
 use Rattle.release.specs.Report.{moves}
 use Rattle.release.specs.Step.{called, drop, moved, participantTo, coordinatorTo, coordinatorGoes, receive, step}
 use Rattle.release.specs.Run.{after, isStoreCallOf, callsMade, CallsCounted}
-use Rattle.release.specs.Types.{Logged, Participant, Sent, Coordinator, CoordinatorTransition, Message, Step, Start, Deliver, Copy, Lose, Timeout, Crash, Restart, Release, Report}
+use Rattle.release.specs.Types.{Participant, Sent, Coordinator, CoordinatorTransition, Message, Step, Start, Deliver, Copy, Lose, Timeout, Crash, Restart, Release, Report}
 use Rattle.release.proofs.Causes.{Cause, idles, starts, delivers, copies, loses, answered, lost, coordinator-answered, coordinator-lost, times-out, crashes, restarts, coordinator-times-out, coordinator-crashes, coordinator-restarts, cause}
 use Rattle.release.proofs.Due.{participant-due, coordinator-due}
 

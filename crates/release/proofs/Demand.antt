@@ -1,5 +1,5 @@
 -- Demand 3 holds: of any list of steps from any release with the invariant, of any list from a fresh release, and across a cut. Assumes nothing.
-use mathlib.Core.Path.{_≡_, refl}
+use mathlib.Core.Path.{refl}
 use mathlib.Core.Logic.{_⊎_, inl, inr}
 use mathlib.Core.List.{List, [], _∷_, _++_}
 use Prim.Native.Nat.{ℕ, _+_, _≤_, _<_}
@@ -7,7 +7,7 @@ use native.Mathlib.Omega.{arith}
 use Rattle.release.specs.State.{participantOf, firstOf, fresh}
 use Rattle.release.specs.Step.{step}
 use Rattle.release.specs.Run.{AllInRange, after}
-use Rattle.release.specs.Demand.{Up, Holds, answered, AllUndisturbed, Ready, Decides, Claims, Demand, DemandHolds, crashes, AllParties, CutHolds}
+use Rattle.release.specs.Demand.{Up, Holds, answered, AllUndisturbed, Ready, Decides, Claims, DemandHolds, crashes, AllParties, CutHolds}
 use Rattle.release.specs.Types.{Step, Release}
 use Rattle.release.proofs.Invariant.{Inv}
 use Rattle.release.proofs.Agreement.{fresh-inv, range-left, range-right, range-append, Later, later, backed-after, decisions-agree}

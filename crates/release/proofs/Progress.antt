@@ -1,13 +1,12 @@
 -- Demand 3, second part: each answered call of an undisturbed participant lowers its rank, and nothing else raises it. Assumes nothing.
 use mathlib.Core.Path.{_≡_, refl, _∙_, ap}
-use mathlib.Core.Logic.{_≢_}
 use mathlib.Core.List.{List, [], _∷_}
 use mathlib.Core.Bool.{Bool, true, false, cond, _&&_}
 use Prim.Native.Nat.{ℕ, zero, suc, _+_, _≤_, _<_}
 use native.Mathlib.Omega.{arith}
 use native.Mathlib.Nat.{le-trans, le-refl}
 use native.Mathlib.Decide.{ℕ-discrete}
-use lib.Dec.{eqb, eqb·zero-suc}
+use lib.Dec.{eqb·zero-suc}
 use lib.ListN.{length}
 use lib.Seq.{getD-set-same}
 use borrow.Author.Tests.{ne-eqb}
@@ -16,17 +15,17 @@ use Rattle.party.specs.Participant
 use Rattle.party.specs.Coordinator
 use Rattle.release.specs.State.{participantOf, firstOf, waiting}
 use Rattle.release.specs.Report.{moves}
-use Rattle.release.specs.Step.{called, send, drop, reply, participantTo, broadcast, coordinatorTo, coordinatorGoes, receive, step}
+use Rattle.release.specs.Step.{called, drop, reply, participantTo, coordinatorTo, coordinatorGoes, receive, step}
 use Rattle.release.specs.Run.{InRange, AllInRange, after}
-use Rattle.release.specs.Demand.{isCallOf, answered, Undisturbed, AllUndisturbed}
-use Rattle.release.specs.Types.{LogPair, Logged, Participant, Terminating, Site, Sent, Decision, To, Coordinator, CoordinatorTransition, Message, Step, Start, Deliver, Copy, Timeout, Crash, Restart, Outcome, Release, Report}
+use Rattle.release.specs.Demand.{isCallOf, answered, AllUndisturbed}
+use Rattle.release.specs.Types.{Logged, Participant, Terminating, Site, Sent, Decision, To, Coordinator, CoordinatorTransition, Message, Step, Start, Deliver, Copy, Timeout, Crash, Restart, Outcome, Release, Report}
 use Rattle.release.proofs.FirstRecords.{true-false}
 use Rattle.release.proofs.Invariant.{Inv}
 use Rattle.release.proofs.Updates.{set-all, Good, drop-inv}
 use Rattle.release.proofs.Calls.{Guard}
 use Rattle.release.proofs.Causes.{ParticipantCall, Cause, idles, starts, delivers, copies, loses, answered as call-answered, lost, coordinator-answered, coordinator-lost, times-out, crashes, restarts, coordinator-times-out, coordinator-crashes, coordinator-restarts, cause}
 use Rattle.release.proofs.Safety.{call-guard, step-good}
-use Rattle.release.proofs.Rank.{rank, Within, request-rank, decision-rank, timeout-rank, restart-rank, answer-rank, guarded-rank}
+use Rattle.release.proofs.Rank.{rank, request-rank, decision-rank, timeout-rank, restart-rank, answer-rank, guarded-rank}
 use Rattle.release.proofs.Due.{participant-due}
 
 -- the participants after one of them went to p

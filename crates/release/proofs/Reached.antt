@@ -1,25 +1,25 @@
 -- Every release that a run reaches is in range, and keeps its logs. Assumes nothing.
 use mathlib.Core.Path.{_≡_, refl, sym, _∙_}
 use mathlib.Core.Logic.{_≢_}
-use mathlib.Core.List.{List, [], _∷_, _++_}
-use mathlib.Core.Bool.{Bool, true, false, cond}
-use Prim.Native.Nat.{ℕ, zero, suc, _+_, _^_, _≤_, _<_}
+use mathlib.Core.List.{List, [], _∷_}
+use mathlib.Core.Bool.{Bool, true, false}
+use Prim.Native.Nat.{ℕ, suc, _+_, _^_, _≤_, _<_}
 use native.Mathlib.Omega.{arith}
 use lib.Dec.{eqb}
 use lib.Pow.{pow-pos}
-use lib.ListN.{getD, set}
+use lib.ListN.{getD}
 use borrow.Author.Tests.{eqb-false}
 use Rattle.mask.specs.Mask.{has, insert, remove, full}
 use Rattle.mask.proofs.Laws.{insert-lt, remove-le, full-lt, full-more, has-zero, has-full, has-insert-other, not-inserted}
-use Rattle.store.specs.Log.{allowed, empty, isAllowed}
+use Rattle.store.specs.Log.{allowed, empty}
 use Rattle.party.specs.Participant
 use Rattle.party.specs.Coordinator
 use Rattle.party.proofs.Cases.{cond-cases, answer-cases, request-cases, decision-cases, timeout-cases, crash-cases, restart-cases, start-cases, replyYes-cases, replyAbort-cases, coordinator-timeout-cases, coordinator-answer-cases, coordinator-crash-cases, coordinator-restart-cases, enters-cases}
 use Rattle.release.specs.State.{participantOf, participantAt, logOf, logAt, firstOf, lastOf, maskAt, maskOf, waiting, fresh}
 use Rattle.release.specs.Step.{called, send, sendAll, drop, withMask, withParticipant, participantTo, withCoordinator, coordinatorTo, coordinatorGoes, receive, step}
 use Rattle.release.specs.Run.{InRange, AllInRange, after}
-use Rattle.release.specs.Range.{HeardInRange, ParticipantInRange, CoordinatorHeardInRange, CoordinatorInRange, ReleaseInRange, ReachedInRange, LogsKept, ReachedKept}
-use Rattle.release.specs.Types.{LogRecord, None, Yes, Abort, Commit, LogPair, Logged, Participant, Waiting, VotingYes, Closing, Terminating, RecordingCommit, Site, Sent, Decision, Transition, NotDue, To, Coordinator, CoordinatorTransition, Message, Step, Release, Report}
+use Rattle.release.specs.Range.{ParticipantInRange, CoordinatorHeardInRange, CoordinatorInRange, ReleaseInRange, ReachedInRange, LogsKept, ReachedKept}
+use Rattle.release.specs.Types.{LogRecord, None, Yes, Abort, Commit, LogPair, Participant, Waiting, VotingYes, Closing, Terminating, RecordingCommit, Site, Sent, Decision, Transition, NotDue, To, Coordinator, CoordinatorTransition, Message, Step, Release, Report}
 use Rattle.release.proofs.FirstRecords.{Keep, true-false}
 use Rattle.release.proofs.Invariant.{Inv, Allowed}
 use Rattle.release.proofs.Updates.{set-all, mask-all, Good}

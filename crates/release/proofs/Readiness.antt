@@ -13,7 +13,7 @@ use Rattle.party.specs.Participant
 use Rattle.release.specs.State.{participantOf, logOf, firstOf, lastOf}
 use Rattle.release.specs.Report.{moves}
 use Rattle.release.specs.Step.{called, participantAnswered, participantPerformed, participantCalls}
-use Rattle.release.specs.Demand.{EveryYes, SomeAbort, Up, Recorded, Holds, Ready}
+use Rattle.release.specs.Demand.{EveryYes, SomeAbort, Up, Holds, Ready}
 use Rattle.release.specs.Types.{LogRecord, None, Yes, Abort, Commit, Call, Logged, Performed, Participant, Waiting, VotingYes, Closing, Uncertain, Terminating, RecordingCommit, RecordingAbort, DoneCommit, DoneAbort, Down, Transition, NotDue, To, Release}
 use Rattle.release.proofs.FirstRecords.{excluded}
 use Rattle.release.proofs.Invariant.{Knows, Ends, Allowed, Inv}

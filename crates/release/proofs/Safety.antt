@@ -1,9 +1,9 @@
 -- Every step keeps the invariant, and its report is true. Assumes nothing.
 use mathlib.Core.Path.{_≡_, refl, sym, _∙_, ap}
-use Prim.Native.Nat.{ℕ, suc, _≤_, _<_}
+use Prim.Native.Nat.{ℕ, suc, _<_}
 use Rattle.mask.specs.Mask.{has}
 use Rattle.store.specs.Log.{perform}
-use Rattle.store.proofs.Laws.{AnswersLast, perform-answers}
+use Rattle.store.proofs.Laws.{perform-answers}
 use Rattle.party.specs.Participant
 use Rattle.party.specs.Coordinator
 use Rattle.release.specs.State.{participantOf, logOf, firstOf, lastOf}
@@ -11,7 +11,7 @@ use Rattle.release.specs.Step.{called, drop, moved, participantTo, parti
 use Rattle.release.specs.Run.{InRange}
 use Rattle.release.specs.Types.{LogRecord, LogPair, Call, Logged, Performed, Participant, Sent, Decision, Transition, NotDue, To, Coordinator, CoordinatorTransition, Message, Step, Release, Report}
 use Rattle.release.proofs.FirstRecords.{still, Keeps, keeps-refl, keeps-trans}
-use Rattle.release.proofs.Invariant.{Knows, Ends, Tells, Inv, participantClaim, coordinatorClaim}
+use Rattle.release.proofs.Invariant.{Tells, Inv, participantClaim, coordinatorClaim}
 use Rattle.release.proofs.Updates.{drop-inv, Change, called-at, called-keeps, called-inv, Good, idle-good, participant-good, coordinator-good}
 use Rattle.release.proofs.Calls.{Says, says, Pends, Guard, CallFits, perform-fits, pending-fits, coordinator-pending-fits}
 use Rattle.release.proofs.Transitions.{Stands, Fits, CoordinatorFits, request-stands, decision-stands, timeout-fits, crash-fits, restart-fits, answer-fits, start-fits, replyYes-fits, replyAbort-fits, coordinator-timeout-fits, coordinator-crash-fits, coordinator-restart-fits, coordinator-answer-fits}

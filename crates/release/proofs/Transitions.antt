@@ -1,8 +1,8 @@
 -- Each rule of a party leads to what the invariant asks. Assumes nothing.
-use mathlib.Core.Path.{_≡_, refl, sym, _∙_}
+use mathlib.Core.Path.{_≡_, sym, _∙_}
 use mathlib.Core.Logic.{_≢_}
 use mathlib.Core.Bool.{Bool, false, cond}
-use Prim.Native.Nat.{ℕ, _<_}
+use Prim.Native.Nat.{ℕ}
 use lib.Dec.{eqb}
 use borrow.Author.Tests.{eqb-true}
 use Rattle.mask.specs.Mask.{has, insert, full}
@@ -11,7 +11,7 @@ use Rattle.party.specs.Participant
 use Rattle.party.specs.Coordinator
 use Rattle.party.proofs.Cases.{cond-cases, answer-cases, request-cases, decision-cases, timeout-cases, crash-cases, restart-cases, start-cases, replyYes-cases, replyAbort-cases, coordinator-timeout-cases, coordinator-answer-cases, coordinator-crash-cases, coordinator-restart-cases, enters-cases}
 use Rattle.release.specs.Demand.{EveryYes, SomeAbort}
-use Rattle.release.specs.Types.{LogRecord, None, Yes, Abort, Commit, Sent, Decision, Participant, VotingYes, Closing, Terminating, RecordingCommit, Transition, NotDue, To, Coordinator, CoordinatorTransition}
+use Rattle.release.specs.Types.{LogRecord, None, Yes, Abort, Commit, Decision, Participant, VotingYes, Closing, Terminating, RecordingCommit, Transition, NotDue, To, Coordinator, CoordinatorTransition}
 use Rattle.release.proofs.FirstRecords.{Heard, heard-none, heard-insert, heard-full}
 use Rattle.release.proofs.Invariant.{Knows, Ends, CoordinatorKnows}
 use Rattle.release.proofs.Updates.{SentFits, BroadcastFits}

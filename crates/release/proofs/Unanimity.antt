@@ -3,11 +3,10 @@
 use mathlib.Core.Path.{_≡_, refl, sym, _∙_}
 use mathlib.Core.Logic.{_⊎_, inl, inr}
 use mathlib.Core.List.{List, [], _∷_, List·Memᴰ·cases-cons, List·Memᴰ·not-nil}
-use mathlib.Core.Bool.{Bool, true, false, cond}
-use Prim.Native.Nat.{ℕ, zero, suc, _<_}
+use mathlib.Core.Bool.{Bool, true, false}
+use Prim.Native.Nat.{ℕ, suc, _<_}
 use native.Mathlib.Omega.{arith}
 use lib.Dec.{eqb}
-use lib.ListN.{getD}
 use Rattle.mask.specs.Mask.{has, full, insert}
 use Rattle.mask.proofs.Laws.{has-full}
 use Rattle.store.specs.Log.{empty, perform}
@@ -16,9 +15,9 @@ use Rattle.party.specs.Coordinator
 use Rattle.party.proofs.Cases.{cond-cases, answer-cases, request-cases, decision-cases, crash-cases, start-cases, replyYes-cases, replyAbort-cases, coordinator-crash-cases, enters-cases}
 use Rattle.release.specs.State.{participantOf, participantAt, logOf, logAt, firstOf, waiting, fresh}
 use Rattle.release.specs.Report.{moves}
-use Rattle.release.specs.Step.{called, drop, withParticipant, participantTo, withCoordinator, coordinatorTo, coordinatorGoes, receive, step}
+use Rattle.release.specs.Step.{called, drop, withParticipant, participantTo, coordinatorTo, coordinatorGoes, receive, step}
 use Rattle.release.specs.Run.{InRange, AllInRange}
-use Rattle.release.specs.Demand.{SomeAbort, Reported, Calm, AllCalm}
+use Rattle.release.specs.Demand.{SomeAbort, Reported, AllCalm}
 use Rattle.release.specs.Types.{LogRecord, None, Yes, Abort, Commit, LogPair, Call, Logged, Performed, Participant, Waiting, VotingYes, Closing, Uncertain, Terminating, RecordingCommit, RecordingAbort, DoneCommit, DoneAbort, Down, Site, Sent, Decision, Transition, NotDue, To, Coordinator, CoordinatorTransition, Message, Step, Timeout, Restart, Outcome, Release, Report}
 use Rattle.release.proofs.FirstRecords.{true-false}
 use Rattle.release.proofs.Invariant.{Inv}

@@ -12,7 +12,7 @@ use Rattle.store.specs.Log.{empty}
 use Rattle.release.specs.State.{participantOf, logOf, firstOf, lastOf, messagePlace, maskAt, maskOf, waiting}
 use Rattle.release.specs.Report.{known, coordinatorKnown, learnt}
 use Rattle.release.specs.Step.{withMask, send, sendAll, drop, withParticipant, participantTo, withCoordinator, coordinatorTo, called, idle}
-use Rattle.release.specs.Types.{LogRecord, LogPair, Participant, Coordinator, Message, Sent, Site, Outcome, Release, Report}
+use Rattle.release.specs.Types.{LogRecord, LogPair, Participant, Coordinator, Message, Sent, Site, Release, Report}
 use Rattle.release.proofs.FirstRecords.{still, Keep, Keeps, keep-refl, keeps-refl}
 use Rattle.release.proofs.Invariant.{Knows, Ends, Allowed, CoordinatorKnows, Tells, Backed, Inv, participantClaim, logClaim, coordinatorClaim, messageClaim, known-backed, coordinator-backed, learnt-backed}
 

@@ -10,7 +10,7 @@ use Rattle.mask.specs.Mask.{has, insert, full}
 use Rattle.store.specs.Log.{empty, isAllowed}
 use Rattle.release.specs.State.{participantOf, logOf, firstOf, lastOf, maskOf, fresh}
 use Rattle.release.specs.Run.{after, AllInRange}
-use Rattle.release.specs.Types.{LogRecord, None, Abort, Commit, Message, Participant, Waiting, VotingYes, Closing, Uncertain, Terminating, RecordingCommit, RecordingAbort, DoneCommit, DoneAbort, Down, Coordinator, Release, Step}
+use Rattle.release.specs.Types.{None, Abort, Commit, Message, Participant, Waiting, VotingYes, Closing, Uncertain, Terminating, RecordingCommit, RecordingAbort, DoneCommit, DoneAbort, Down, Coordinator, Release, Step}
 
 -- In 4 a participant has a heard mask: within n, never its own bit, never full
 pub record HeardInRange (n i h : ℕ) : Type 0 where

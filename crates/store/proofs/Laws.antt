@@ -2,7 +2,7 @@
 use mathlib.Core.Path.{_≡_, refl}
 use mathlib.Core.Bool.{Bool, true, false, cond}
 use Rattle.store.specs.Log.{leaves, replaces, perform}
-use Rattle.store.specs.Types.{LogRecord, LogPair, Call, Performed}
+use Rattle.store.specs.Types.{LogPair, Call, Performed}
 
 -- a call that is not refused answers the last record afterwards
 abbrev pub AnswersLast : Performed → Type 0
