@@ -2,7 +2,7 @@
 -- The definitions name no width; every crate's rules and contracts cite them. Assumes nothing.
 use mathlib.Core.Bool.{Bool}
 use Prim.Native.Nat.{ℕ, zero, suc, _+_, _-_, _*_, _/_, _%_, _^_}
-use lib.Dec.{eqb}
+use lib.Dec.{eqb, leb}
 
 -- the bit at place i
 abbrev pub bit : ℕ → ℕ → ℕ
@@ -25,6 +25,10 @@ remove (suc i) m = remove i (m / 2) * 2 + m % 2
 -- participants 1 to n
 abbrev pub full : ℕ → ℕ
 full n = 2 ^ n - 1
+
+-- a mask of participants 1 to n, that has nobody beyond n
+abbrev pub within : ℕ → ℕ → Bool
+within n m = leb m (full n)
 
 -- how many of participants 1 to n are members
 abbrev pub size : ℕ → ℕ → ℕ

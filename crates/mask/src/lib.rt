@@ -2,7 +2,7 @@
 // Every function takes a place, a participant's number less one.
 ghost use mathlib.Core.Path.{_≡_};
 ghost use Prim.Native.Nat.{_≤_, _<_};
-ghost use Rattle.mask.specs.Mask.{has, insert, remove, full, size};
+ghost use Rattle.mask.specs.Mask.{has, insert, remove, full, within, size};
 
 // Whether place i is a member. A place that no mask has is none.
 pub fn has(m: u32, i: u32) -> bool
@@ -32,6 +32,14 @@ pub fn full(n: u32) -> u32
     ensures { λ r. ⌜ r ≡ full n ⌝ }
 {
     ((1u64 << n) - 1) as u32
+}
+
+// Whether the mask has nobody beyond participant n.
+pub fn within(m: u32, n: u32) -> bool
+    requires { ⌜ n ≤ 32 ⌝ }
+    ensures { λ r. ⌜ r ≡ within n m ⌝ }
+{
+    m <= full(n)
 }
 
 // How many of participants 1 to n are members.

@@ -1,9 +1,11 @@
 -- The rules of the coordinator, in document 01's order. `n` is the number of participants, `i` the place of the participant that replies,
 -- `j` the place of a log, `h` a heard mask. What the coordinator sends goes to all participants. Assumes nothing.
-use mathlib.Core.Bool.{cond}
+use mathlib.Core.Bool.{Bool, true, cond, not, _&&_}
+use mathlib.Core.List.{[], _∷_}
 use Prim.Native.Nat.{ℕ}
 use lib.Dec.{eqb}
-use Rattle.mask.specs.Mask.{has, insert, full}
+use Rattle.number.specs.Numbering.{numbered, areNumbers}
+use Rattle.mask.specs.Mask.{has, insert, full, within}
 use Rattle.party.specs.Types.{LogRecord, Call, Message, Sent, Coordinator, CoordinatorTransition}
 use Rattle.party.specs.declared.coordinator.Coordinator.the-variants.{Idle, Waiting, Terminating, Commit, Abort, Down, Retired}
 use Rattle.party.specs.declared.coordinator.Transition.the-variants.{NotDue, To}
@@ -17,6 +19,39 @@ stateNumber Commit = 3
 stateNumber Abort = 4
 stateNumber Down = 5
 stateNumber Retired = 6
+
+-- Heard masks are 0 outside states 1 and 2
+abbrev pub heardOf : Coordinator → ℕ
+heardOf Idle = 0
+heardOf (Waiting h) = h
+heardOf (Terminating h) = h
+heardOf Commit = 0
+heardOf Abort = 0
+heardOf Down = 0
+heardOf Retired = 0
+
+-- back from the numbers of state and heard mask
+abbrev pub coordinatorOf : ℕ → ℕ → Coordinator
+coordinatorOf s h = numbered stateNumber Idle (Waiting h ∷ Terminating h ∷ Commit ∷ Abort ∷ Down ∷ Retired ∷ []) s
+
+abbrev pub isCoordinator : ℕ → ℕ → Bool
+isCoordinator s h = areNumbers stateNumber heardOf coordinatorOf s h
+
+-- and never full there
+abbrev pub heardInRange : ℕ → ℕ → Bool
+heardInRange n h = within n h && not (eqb h (full n))
+
+abbrev pub inRange : ℕ → Coordinator → Bool
+inRange n Idle = true
+inRange n (Waiting h) = heardInRange n h
+inRange n (Terminating h) = heardInRange n h
+inRange n Commit = true
+inRange n Abort = true
+inRange n Down = true
+inRange n Retired = true
+
+abbrev pub numbersInRange : ℕ → ℕ → ℕ → Bool
+numbersInRange n s h = isCoordinator s h && inRange n (coordinatorOf s h)
 
 -- to a state, with nothing sent
 abbrev pub to : Coordinator → CoordinatorTransition

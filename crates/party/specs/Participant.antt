@@ -1,9 +1,11 @@
 -- The rules of a participant, in document 01's order. `n` is the number of participants, `own` the participant's place (its number less one),
 -- `j` the place of a log, `h` a heard mask. Assumes nothing.
-use mathlib.Core.Bool.{Bool, cond, _||_}
+use mathlib.Core.Bool.{Bool, true, cond, not, _&&_, _||_}
+use mathlib.Core.List.{[], _∷_}
 use Prim.Native.Nat.{ℕ}
 use lib.Dec.{eqb}
-use Rattle.mask.specs.Mask.{has, insert, full}
+use Rattle.number.specs.Numbering.{numbered, areNumbers}
+use Rattle.mask.specs.Mask.{has, insert, full, within}
 use Rattle.party.specs.Types.{LogRecord, None, Yes, Abort, Commit, Call, Message, Sent, Decision, Participant, Waiting, VotingYes, Closing, Uncertain, Terminating, RecordingCommit, RecordingAbort, DoneCommit, DoneAbort, Down, Transition, NotDue, To}
 
 -- States
@@ -18,6 +20,47 @@ stateNumber RecordingAbort = 6
 stateNumber DoneCommit = 7
 stateNumber DoneAbort = 8
 stateNumber Down = 9
+
+-- In 4 it has a heard mask; outside 4 that is 0
+abbrev pub heardOf : Participant → ℕ
+heardOf Waiting = 0
+heardOf VotingYes = 0
+heardOf Closing = 0
+heardOf Uncertain = 0
+heardOf (Terminating h) = h
+heardOf RecordingCommit = 0
+heardOf RecordingAbort = 0
+heardOf DoneCommit = 0
+heardOf DoneAbort = 0
+heardOf Down = 0
+
+-- back from the numbers of state and heard mask
+abbrev pub participantOf : ℕ → ℕ → Participant
+participantOf s h =
+    numbered stateNumber Waiting
+    (VotingYes ∷ Closing ∷ Uncertain ∷ Terminating h ∷ RecordingCommit ∷ RecordingAbort ∷ DoneCommit ∷ DoneAbort ∷ Down ∷ []) s
+
+abbrev pub isParticipant : ℕ → ℕ → Bool
+isParticipant s h = areNumbers stateNumber heardOf participantOf s h
+
+-- a heard mask that goes beyond n, has the own bit or is full is out of range
+abbrev pub heardInRange : ℕ → ℕ → ℕ → Bool
+heardInRange n own h = within n h && (not (has own h) && not (eqb (insert own h) (full n)))
+
+abbrev pub inRange : ℕ → ℕ → Participant → Bool
+inRange n own Waiting = true
+inRange n own VotingYes = true
+inRange n own Closing = true
+inRange n own Uncertain = true
+inRange n own (Terminating h) = heardInRange n own h
+inRange n own RecordingCommit = true
+inRange n own RecordingAbort = true
+inRange n own DoneCommit = true
+inRange n own DoneAbort = true
+inRange n own Down = true
+
+abbrev pub numbersInRange : ℕ → ℕ → ℕ → ℕ → Bool
+numbersInRange n own s h = isParticipant s h && inRange n own (participantOf s h)
 
 -- to a state, with nothing sent, or with a message sent
 abbrev pub to : Participant → Transition

@@ -5,7 +5,7 @@ use store::Call;
 use store::LogRecord;
 ghost use mathlib.Core.Path.{_≡_};
 ghost use Prim.Native.Nat.{_≤_, _<_};
-ghost use Rattle.party.specs.Coordinator.{to, enters, onStart, unlessFull, onReplyYes, onReplyAbort, onTimeout, pending, onHeard, onAnswer, onCrash, onRestart};
+ghost use Rattle.party.specs.Coordinator.{stateNumber, heardOf, coordinatorOf, isCoordinator, heardInRange, inRange, numbersInRange, to, enters, onStart, unlessFull, onReplyYes, onReplyAbort, onTimeout, pending, onHeard, onAnswer, onCrash, onRestart};
 
 // The coordinator in its state. Waiting and terminating, it has the mask of the participants heard.
 pub enum Coordinator {
@@ -31,7 +31,104 @@ fn to(c: Coordinator) -> Transition
     Transition::To(c, Sent::Nothing)
 }
 
+// A heard mask has nobody beyond n, and not all.
+fn heard_in_range(n: u32, h: u32) -> bool
+    requires { ⌜ n ≤ 32 ⌝ }
+    ensures { λ b. ⌜ b ≡ heardInRange n h ⌝ }
+{
+    if mask::within(h, n) {
+        h != mask::full(n)
+    } else {
+        false
+    }
+}
+
 impl Coordinator {
+    // Its state's number.
+    pub fn number(self) -> u32
+        ensures { λ k. ⌜ k ≡ stateNumber self ⌝ }
+    {
+        match self {
+            Coordinator::Idle => 0,
+            Coordinator::Waiting(_) => 1,
+            Coordinator::Terminating(_) => 2,
+            Coordinator::Commit => 3,
+            Coordinator::Abort => 4,
+            Coordinator::Down => 5,
+            Coordinator::Retired => 6,
+        }
+    }
+
+    // Its heard mask; outside waiting and terminating that is 0.
+    pub fn heard(self) -> u32
+        ensures { λ h. ⌜ h ≡ heardOf self ⌝ }
+    {
+        match self {
+            Coordinator::Idle => 0,
+            Coordinator::Waiting(h) => h,
+            Coordinator::Terminating(h) => h,
+            Coordinator::Commit => 0,
+            Coordinator::Abort => 0,
+            Coordinator::Down => 0,
+            Coordinator::Retired => 0,
+        }
+    }
+
+    // The coordinator in a state with a heard mask, by their numbers.
+    pub fn of(state: u32, heard: u32) -> Coordinator
+        ensures { λ c. ⌜ c ≡ coordinatorOf state heard ⌝ }
+    {
+        match state {
+            1 => Coordinator::Waiting(heard),
+            2 => Coordinator::Terminating(heard),
+            3 => Coordinator::Commit,
+            4 => Coordinator::Abort,
+            5 => Coordinator::Down,
+            6 => Coordinator::Retired,
+            _ => Coordinator::Idle,
+        }
+    }
+
+    // Whether these are the numbers of a coordinator.
+    fn known(state: u32, heard: u32) -> bool
+        ensures { λ b. ⌜ b ≡ isCoordinator state heard ⌝ }
+    {
+        let c = Coordinator::of(state, heard);
+        if c.number() == state {
+            c.heard() == heard
+        } else {
+            false
+        }
+    }
+
+    // Whether the coordinator of n can have its heard mask.
+    fn in_range(self, n: u32) -> bool
+        requires { ⌜ n ≤ 32 ⌝ }
+        ensures { λ b. ⌜ b ≡ inRange n self ⌝ }
+    {
+        match self {
+            Coordinator::Idle => true,
+            Coordinator::Waiting(h) => heard_in_range(n, h),
+            Coordinator::Terminating(h) => heard_in_range(n, h),
+            Coordinator::Commit => true,
+            Coordinator::Abort => true,
+            Coordinator::Down => true,
+            Coordinator::Retired => true,
+        }
+    }
+
+    // Whether the coordinator of n can have these numbers.
+    pub fn numbers_in_range(n: u32, state: u32, heard: u32) -> bool
+        requires { ⌜ n ≤ 32 ⌝ }
+        ensures { λ b. ⌜ b ≡ numbersInRange n state heard ⌝ }
+    {
+        if Coordinator::known(state, heard) {
+            Coordinator::of(state, heard).in_range(n)
+        } else {
+            false
+        }
+    }
+
     // Entering commit or abort sends that decision.
     fn enters(self) -> Transition
         ensures { λ t. ⌜ t ≡ enters self ⌝ }

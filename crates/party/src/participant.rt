@@ -6,7 +6,7 @@ use store::Call;
 use store::LogRecord;
 ghost use mathlib.Core.Path.{_≡_};
 ghost use Prim.Native.Nat.{_≤_, _<_};
-ghost use Rattle.party.specs.Participant.{to, onRequest, recording, onDecision, ownCall, otherCall, pending, terminating, onVote, onClose, onHeard, onCommitRecorded, onAbortRecorded, onAnswer, onTimeout, onCrash, onRestart};
+ghost use Rattle.party.specs.Participant.{stateNumber, heardOf, participantOf, isParticipant, heardInRange, inRange, numbersInRange, to, onRequest, recording, onDecision, ownCall, otherCall, pending, terminating, onVote, onClose, onHeard, onCommitRecorded, onAbortRecorded, onAnswer, onTimeout, onCrash, onRestart};
 
 // A participant in its state. Terminating, it has the mask of the participants heard.
 pub enum Participant {
@@ -35,7 +35,120 @@ fn to(p: Participant) -> Transition
     Transition::To(p, Sent::Nothing)
 }
 
+// A heard mask has nobody beyond n, not the participant itself, and not all others.
+fn heard_in_range(n: u32, own: u32, h: u32) -> bool
+    requires { ⌜ (own < 32) × (n ≤ 32) ⌝ }
+    ensures { λ b. ⌜ b ≡ heardInRange n own h ⌝ }
+{
+    if mask::within(h, n) {
+        if mask::has(h, own) {
+            false
+        } else {
+            mask::insert(h, own) != mask::full(n)
+        }
+    } else {
+        false
+    }
+}
+
 impl Participant {
+    // Its state's number.
+    pub fn number(self) -> u32
+        ensures { λ k. ⌜ k ≡ stateNumber self ⌝ }
+    {
+        match self {
+            Participant::Waiting => 0,
+            Participant::VotingYes => 1,
+            Participant::Closing => 2,
+            Participant::Uncertain => 3,
+            Participant::Terminating(_) => 4,
+            Participant::RecordingCommit => 5,
+            Participant::RecordingAbort => 6,
+            Participant::DoneCommit => 7,
+            Participant::DoneAbort => 8,
+            Participant::Down => 9,
+        }
+    }
+
+    // Its heard mask; outside terminating that is 0.
+    pub fn heard(self) -> u32
+        ensures { λ h. ⌜ h ≡ heardOf self ⌝ }
+    {
+        match self {
+            Participant::Waiting => 0,
+            Participant::VotingYes => 0,
+            Participant::Closing => 0,
+            Participant::Uncertain => 0,
+            Participant::Terminating(h) => h,
+            Participant::RecordingCommit => 0,
+            Participant::RecordingAbort => 0,
+            Participant::DoneCommit => 0,
+            Participant::DoneAbort => 0,
+            Participant::Down => 0,
+        }
+    }
+
+    // The participant in a state with a heard mask, by their numbers.
+    pub fn of(state: u32, heard: u32) -> Participant
+        ensures { λ p. ⌜ p ≡ participantOf state heard ⌝ }
+    {
+        match state {
+            1 => Participant::VotingYes,
+            2 => Participant::Closing,
+            3 => Participant::Uncertain,
+            4 => Participant::Terminating(heard),
+            5 => Participant::RecordingCommit,
+            6 => Participant::RecordingAbort,
+            7 => Participant::DoneCommit,
+            8 => Participant::DoneAbort,
+            9 => Participant::Down,
+            _ => Participant::Waiting,
+        }
+    }
+
+    // Whether these are the numbers of a participant.
+    fn known(state: u32, heard: u32) -> bool
+        ensures { λ b. ⌜ b ≡ isParticipant state heard ⌝ }
+    {
+        let p = Participant::of(state, heard);
+        if p.number() == state {
+            p.heard() == heard
+        } else {
+            false
+        }
+    }
+
+    // Whether a participant at this place among n can have its heard mask.
+    fn in_range(self, n: u32, own: u32) -> bool
+        requires { ⌜ (own < 32) × (n ≤ 32) ⌝ }
+        ensures { λ b. ⌜ b ≡ inRange n own self ⌝ }
+    {
+        match self {
+            Participant::Waiting => true,
+            Participant::VotingYes => true,
+            Participant::Closing => true,
+            Participant::Uncertain => true,
+            Participant::Terminating(h) => heard_in_range(n, own, h),
+            Participant::RecordingCommit => true,
+            Participant::RecordingAbort => true,
+            Participant::DoneCommit => true,
+            Participant::DoneAbort => true,
+            Participant::Down => true,
+        }
+    }
+
+    // Whether a participant at this place among n can have these numbers.
+    pub fn numbers_in_range(n: u32, own: u32, state: u32, heard: u32) -> bool
+        requires { ⌜ (own < 32) × (n ≤ 32) ⌝ }
+        ensures { λ b. ⌜ b ≡ numbersInRange n own state heard ⌝ }
+    {
+        if Participant::known(state, heard) {
+            Participant::of(state, heard).in_range(n, own)
+        } else {
+            false
+        }
+    }
+
     // A vote request, with the participant's own vote.
     pub fn request(self, vote: bool) -> Participant
         ensures { λ p. ⌜ p ≡ onRequest vote self ⌝ }

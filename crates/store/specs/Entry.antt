@@ -1,6 +1,7 @@
 -- The log entries: what each hands over, for every log and record. Order: 5, 8, 9. Assumes nothing.
 use mathlib.Core.Bool.{cond}
 use Prim.Native.Nat.{ℕ}
+use Rattle.number.specs.Refusal.{accepted, outOfRange, wrongRecord, refusedByRule}
 use Rattle.store.specs.Types.{LogRecord, None, Yes, Abort, Commit, LogPair, Logged, Performed, EntryAnswer}
 use Rattle.store.specs.Log.{recordNumber, isAllowed, logOnce, log}
 
@@ -11,7 +12,7 @@ pub record Handed : Type 0 where
   pub log : LogPair
 
 abbrev pub done : Logged → Handed
-done x = record { number = 0; answer = recordNumber (x .answer); log = x .log }
+done x = record { number = accepted; answer = recordNumber (x .answer); log = x .log }
 
 -- a refusal hands the log back as given
 abbrev pub refused : ℕ → LogPair → Handed
@@ -20,30 +21,30 @@ refused k l = record { number = k; answer = 0; log = l }
 -- what each case of the answer stands for
 abbrev pub handed : EntryAnswer → Handed
 handed (EntryAnswer.Done x) = done x
-handed (EntryAnswer.OutOfRange l) = refused 5 l
-handed (EntryAnswer.WrongRecord l) = refused 8 l
-handed (EntryAnswer.RefusedByRule l) = refused 9 l
+handed (EntryAnswer.OutOfRange l) = refused outOfRange l
+handed (EntryAnswer.WrongRecord l) = refused wrongRecord l
+handed (EntryAnswer.RefusedByRule l) = refused refusedByRule l
 
 -- LogOnce takes yes or abort
 abbrev pub logOnceTakes : LogRecord → LogPair → Handed
-logOnceTakes None l = refused 8 l
+logOnceTakes None l = refused wrongRecord l
 logOnceTakes Yes l = done (logOnce Yes l)
 logOnceTakes Abort l = done (logOnce Abort l)
-logOnceTakes Commit l = refused 8 l
+logOnceTakes Commit l = refused wrongRecord l
 
 abbrev pub logOnceEntry : LogPair → LogRecord → Handed
-logOnceEntry l r = cond (isAllowed l) (logOnceTakes r l) (refused 5 l)
+logOnceEntry l r = cond (isAllowed l) (logOnceTakes r l) (refused outOfRange l)
 
 -- Log takes abort or commit
 abbrev pub logHands : Performed → LogPair → Handed
-logHands Performed.Refused l = refused 9 l
+logHands Performed.Refused l = refused refusedByRule l
 logHands (Performed.Done x) l = done x
 
 abbrev pub logTakes : LogRecord → LogPair → Handed
-logTakes None l = refused 8 l
-logTakes Yes l = refused 8 l
+logTakes None l = refused wrongRecord l
+logTakes Yes l = refused wrongRecord l
 logTakes Abort l = logHands (log Abort l) l
 logTakes Commit l = logHands (log Commit l) l
 
 abbrev pub logEntry : LogPair → LogRecord → Handed
-logEntry l r = cond (isAllowed l) (logTakes r l) (refused 5 l)
+logEntry l r = cond (isAllowed l) (logTakes r l) (refused outOfRange l)

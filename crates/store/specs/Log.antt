@@ -1,6 +1,8 @@
 -- One log: its records, the pairs allowed, and the two calls. The rules of a release and the log entries cite them. Assumes nothing.
 use mathlib.Core.Bool.{Bool, true, false, cond}
+use mathlib.Core.List.{[], _∷_}
 use Prim.Native.Nat.{ℕ}
+use Rattle.number.specs.Numbering.{numbered, isNumber}
 use Rattle.store.specs.Types.{LogRecord, None, Yes, Abort, Commit, LogPair, Call, Logged, Performed}
 
 -- Log records: 0 none, 1 yes, 2 abort, 3 commit
@@ -9,6 +11,16 @@ recordNumber None = 0
 recordNumber Yes = 1
 recordNumber Abort = 2
 recordNumber Commit = 3
+
+abbrev pub recordOf : ℕ → LogRecord
+recordOf k = numbered recordNumber None (Yes ∷ Abort ∷ Commit ∷ []) k
+
+abbrev pub isRecord : ℕ → Bool
+isRecord k = isNumber recordNumber recordOf k
+
+-- Eight logs make the store: the places of a release
+abbrev pub places : ℕ
+places = 8
 
 abbrev pub empty : LogPair
 empty = record { first = None; last = None }

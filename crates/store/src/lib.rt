@@ -1,7 +1,7 @@
 // The store: write-once logs, the calls LogOnce and Log, and the two log entries.
 ghost use mathlib.Core.Path.{_≡_};
 ghost use lib.ListN.{getD, set};
-ghost use Rattle.store.specs.Log.{empty, isAllowed, logOnce, replaces, log, perform};
+ghost use Rattle.store.specs.Log.{recordNumber, recordOf, isRecord, empty, isAllowed, logOnce, replaces, log, perform};
 ghost use Rattle.store.specs.Entry.{handed, logOnceEntry, logHands, logEntry};
 
 // How many logs a store has: one for each participant that it has room for.
@@ -51,6 +51,39 @@ pub enum EntryAnswer {
     OutOfRange(LogPair),
     WrongRecord(LogPair),
     RefusedByRule(LogPair),
+}
+
+impl LogRecord {
+    // Its number.
+    pub fn number(self) -> u32
+        ensures { λ k. ⌜ k ≡ recordNumber self ⌝ }
+    {
+        match self {
+            LogRecord::None => 0,
+            LogRecord::Yes => 1,
+            LogRecord::Abort => 2,
+            LogRecord::Commit => 3,
+        }
+    }
+
+    // The record with number k; where there is none, no record.
+    pub fn of(k: u32) -> LogRecord
+        ensures { λ r. ⌜ r ≡ recordOf k ⌝ }
+    {
+        match k {
+            1 => LogRecord::Yes,
+            2 => LogRecord::Abort,
+            3 => LogRecord::Commit,
+            _ => LogRecord::None,
+        }
+    }
+
+    // Whether k is the number of a record.
+    pub fn known(k: u32) -> bool
+        ensures { λ b. ⌜ b ≡ isRecord k ⌝ }
+    {
+        LogRecord::of(k).number() == k
+    }
 }
 
 impl LogPair {

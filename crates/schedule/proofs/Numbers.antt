@@ -1,0 +1,38 @@
+-- The numbers of kinds and steps and the ways back belong together, and what a step in range says of its numbers. Assumes nothing.
+use mathlib.Core.Path.{_≡_, refl}
+use Rattle.number.specs.Numbering.{Inverse, Inverse3}
+use Rattle.number.proofs.Laws.{inverse, inverse3}
+use Rattle.party.specs.Message.{messageOf, typeNumber}
+use Rattle.party.proofs.Numbers.{message-numbers}
+use Rattle.schedule.specs.Types.{Kind, Step}
+use Rattle.schedule.specs.Kind.{kindNumber, kindOf}
+use Rattle.schedule.specs.Step.{stepNumber, firstNumber, secondNumber, stepOf}
+
+kind-back : (k : Kind) → kindOf (kindNumber k) ≡ k
+kind-back Kind.Header = refl
+kind-back Kind.Start = refl
+kind-back Kind.Deliver = refl
+kind-back Kind.Copy = refl
+kind-back Kind.Lose = refl
+kind-back Kind.Call = refl
+kind-back Kind.CallLost = refl
+kind-back Kind.Timeout = refl
+kind-back Kind.Crash = refl
+kind-back Kind.Restart = refl
+
+pub kind-numbers : Inverse kindNumber kindOf
+kind-numbers = inverse kindNumber kindOf kind-back
+
+step-back : (s : Step) → stepOf (stepNumber s) (firstNumber s) (secondNumber s) ≡ s
+step-back Step.Start = refl
+step-back (Step.Deliver m q) = rw (message-numbers .decoded m) refl
+step-back (Step.Copy m q) = rw (message-numbers .decoded m) refl
+step-back (Step.Lose m q) = rw (message-numbers .decoded m) refl
+step-back (Step.Call p q) = refl
+step-back (Step.CallLost p q) = refl
+step-back (Step.Timeout p) = refl
+step-back (Step.Crash p) = refl
+step-back (Step.Restart p) = refl
+
+pub step-numbers : Inverse3 stepNumber firstNumber secondNumber stepOf
+step-numbers = inverse3 stepNumber firstNumber secondNumber stepOf step-back

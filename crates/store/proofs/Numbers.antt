@@ -1,0 +1,15 @@
+-- The numbers of records and the way back belong together. Assumes nothing.
+use mathlib.Core.Path.{_≡_, refl}
+use Rattle.number.specs.Numbering.{Inverse}
+use Rattle.number.proofs.Laws.{inverse}
+use Rattle.store.specs.Types.{LogRecord, None, Yes, Abort, Commit}
+use Rattle.store.specs.Log.{recordNumber, recordOf}
+
+record-back : (r : LogRecord) → recordOf (recordNumber r) ≡ r
+record-back None = refl
+record-back Yes = refl
+record-back Abort = refl
+record-back Commit = refl
+
+pub record-numbers : Inverse recordNumber recordOf
+record-numbers = inverse recordNumber recordOf record-back
