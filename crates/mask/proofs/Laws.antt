@@ -10,8 +10,8 @@ use native.Mathlib.Decide.{ℕ-discrete, decLt}
 use lib.Dec.{eqb}
 use lib.Pow.{pow-pos, shr-shr, shl-exact}
 use lib.Bits.{bitOr, or-step, or-zero-r}
-use borrow.Author.Tests.{eqb-true, eqb-false}
-use Rattle.mask.specs.Mask.{bit, has, insert, remove, full, size}
+use borrow.Author.Tests.{leb-true, eqb-true, eqb-false, le-leb}
+use Rattle.mask.specs.Mask.{bit, has, insert, remove, full, within, size}
 
 -- x * 2 + a digit, taken apart
 half : (x m : ℕ) → (x * 2 + m % 2) / 2 ≡ x
@@ -196,6 +196,13 @@ remove-le (suc i) m = omega (arith, remove-le i (m / 2))
 
 pub full-lt : (n : ℕ) → full n < 2 ^ n
 full-lt n = omega (arith, pow-pos n)
+
+-- a mask within n is below 2 to the power n
+pub lt-within : (n m : ℕ) → m < 2 ^ n → within n m ≡ true
+lt-within n m h = le-leb m (full n) (omega arith)
+
+pub within-lt : (n m : ℕ) → within n m ≡ true → m < 2 ^ n
+within-lt n m q = omega (arith, leb-true m (full n) q, full-lt n)
 
 -- a set of at most n members that has them all is the full set
 pub full-ext : (n m : ℕ) → m < 2 ^ n → ((j : ℕ) → j < n → bit j m ≡ 1) → m ≡ full n

@@ -4,6 +4,7 @@ use mathlib.Core.Logic.{_⊎_, inl, inr}
 use mathlib.Core.List.{List, [], _∷_, _++_}
 use Prim.Native.Nat.{ℕ, _+_, _≤_, _<_}
 use native.Mathlib.Omega.{arith}
+use borrow.Author.Tests.{le-leb}
 use Rattle.release.specs.State.{participantOf, firstOf, fresh}
 use Rattle.release.specs.Step.{step}
 use Rattle.release.specs.Run.{AllInRange, after}
@@ -111,7 +112,7 @@ demand-holds places n votes fits steps h =
 
 crashes-in-range : (n : ℕ) (ps : List ℕ) → AllParties n ps → AllInRange n (crashes ps)
 crashes-in-range n [] h = tt
-crashes-in-range n (p ∷ ps) h = (h .0, crashes-in-range n ps (h .1))
+crashes-in-range n (p ∷ ps) h = (le-leb p n (h .0), crashes-in-range n ps (h .1))
 
 pub cut-holds : CutHolds
 cut-holds places n votes fits before crashed rest hb hc hr =

@@ -11,7 +11,7 @@ use Rattle.party.proofs.Cases.{replyYes-cases, replyAbort-cases, enters-cases}
 use Rattle.release.specs.State.{participantOf, logOf, inFlight}
 use Rattle.release.specs.Report.{moves}
 use Rattle.release.specs.Step.{called, drop, idle, moved, participantGoes, coordinatorGoes, receive, participantAnswered, participantPerformed, participantCalls, coordinatorAnswered, coordinatorPerformed, coordinatorCalls, calls}
-use Rattle.release.specs.Due.{isOneOf, canGet, answerable, callDue, DueAsWritten}
+use Rattle.release.specs.Due.{inStates, canGet, answerable, callDue, DueAsWritten}
 use Rattle.release.specs.Types.{LogRecord, None, Yes, Abort, Commit, LogPair, Call, Logged, Performed, Message, Sent, Decision, Participant, Waiting, VotingYes, Closing, Uncertain, Terminating, RecordingCommit, RecordingAbort, DoneCommit, DoneAbort, Down, Transition, NotDue, To, Coordinator, CoordinatorTransition, Release, Step, Start, Deliver, Copy, Lose, Timeout, Crash, Restart, Report}
 use Rattle.release.proofs.Due.{participant-due, coordinator-due}
 
@@ -35,7 +35,7 @@ coordinator-goes-moves (CoordinatorTransition.To c s) r = coordinator-due c s r
 
 -- start, timeout, crash, restart
 
-start-leads : (c : Coordinator) → coordinatorLeads (Coordinator.onStart c) ≡ isOneOf (0 ∷ []) (Coordinator.stateNumber c)
+start-leads : (c : Coordinator) → coordinatorLeads (Coordinator.onStart c) ≡ inStates Coordinator.stateNumber (Coordinator.Idle ∷ []) c
 start-leads Coordinator.Idle = refl
 start-leads (Coordinator.Waiting h) = refl
 start-leads (Coordinator.Terminating h) = refl
@@ -44,7 +44,7 @@ start-leads Coordinator.Abort = refl
 start-leads Coordinator.Down = refl
 start-leads Coordinator.Retired = refl
 
-coordinator-timeout-leads : (c : Coordinator) → coordinatorLeads (Coordinator.onTimeout c) ≡ isOneOf (1 ∷ 2 ∷ []) (Coordinator.stateNumber c)
+coordinator-timeout-leads : (c : Coordinator) → coordinatorLeads (Coordinator.onTimeout c) ≡ inStates Coordinator.stateNumber (Coordinator.Waiting 0 ∷ Coordinator.Terminating 0 ∷ []) c
 coordinator-timeout-leads Coordinator.Idle = refl
 coordinator-timeout-leads (Coordinator.Waiting h) = refl
 coordinator-timeout-leads (Coordinator.Terminating h) = refl
@@ -53,7 +53,7 @@ coordinator-timeout-leads Coordinator.Abort = refl
 coordinator-timeout-leads Coordinator.Down = refl
 coordinator-timeout-leads Coordinator.Retired = refl
 
-coordinator-crash-leads : (c : Coordinator) → coordinatorLeads (Coordinator.onCrash c) ≡ not (isOneOf (5 ∷ []) (Coordinator.stateNumber c))
+coordinator-crash-leads : (c : Coordinator) → coordinatorLeads (Coordinator.onCrash c) ≡ not (inStates Coordinator.stateNumber (Coordinator.Down ∷ []) c)
 coordinator-crash-leads Coordinator.Idle = refl
 coordinator-crash-leads (Coordinator.Waiting h) = refl
 coordinator-crash-leads (Coordinator.Terminating h) = refl
@@ -62,7 +62,7 @@ coordinator-crash-leads Coordinator.Abort = refl
 coordinator-crash-leads Coordinator.Down = refl
 coordinator-crash-leads Coordinator.Retired = refl
 
-coordinator-restart-leads : (c : Coordinator) → coordinatorLeads (Coordinator.onRestart c) ≡ isOneOf (5 ∷ []) (Coordinator.stateNumber c)
+coordinator-restart-leads : (c : Coordinator) → coordinatorLeads (Coordinator.onRestart c) ≡ inStates Coordinator.stateNumber (Coordinator.Down ∷ []) c
 coordinator-restart-leads Coordinator.Idle = refl
 coordinator-restart-leads (Coordinator.Waiting h) = refl
 coordinator-restart-leads (Coordinator.Terminating h) = refl
@@ -71,7 +71,7 @@ coordinator-restart-leads Coordinator.Abort = refl
 coordinator-restart-leads Coordinator.Down = refl
 coordinator-restart-leads Coordinator.Retired = refl
 
-timeout-leads : (n i : ℕ) (p : Participant) → leads (Participant.onTimeout n i p) ≡ isOneOf (0 ∷ 3 ∷ 4 ∷ []) (Participant.stateNumber p)
+timeout-leads : (n i : ℕ) (p : Participant) → leads (Participant.onTimeout n i p) ≡ inStates Participant.stateNumber (Waiting ∷ Uncertain ∷ Terminating 0 ∷ []) p
 timeout-leads n i Waiting = refl
 timeout-leads n i VotingYes = refl
 timeout-leads n i Closing = refl
@@ -83,7 +83,7 @@ timeout-leads n i DoneCommit = refl
 timeout-leads n i DoneAbort = refl
 timeout-leads n i Down = refl
 
-crash-leads : (p : Participant) → leads (Participant.onCrash p) ≡ not (isOneOf (9 ∷ []) (Participant.stateNumber p))
+crash-leads : (p : Participant) → leads (Participant.onCrash p) ≡ not (inStates Participant.stateNumber (Down ∷ []) p)
 crash-leads Waiting = refl
 crash-leads VotingYes = refl
 crash-leads Closing = refl
@@ -95,7 +95,7 @@ crash-leads DoneCommit = refl
 crash-leads DoneAbort = refl
 crash-leads Down = refl
 
-restart-leads : (p : Participant) → leads (Participant.onRestart p) ≡ isOneOf (9 ∷ []) (Participant.stateNumber p)
+restart-leads : (p : Participant) → leads (Participant.onRestart p) ≡ inStates Participant.stateNumber (Down ∷ []) p
 restart-leads Waiting = refl
 restart-leads VotingYes = refl
 restart-leads Closing = refl
@@ -142,7 +142,7 @@ Asks DoneCommit = ⊥
 Asks DoneAbort = ⊥
 Asks Down = ⊥
 
-answer-leads : (n i j : ℕ) (p : Participant) (a : LogRecord) → Asks p → leads (Participant.onAnswer n i p j a) ≡ canGet (Participant.stateNumber p) a
+answer-leads : (n i j : ℕ) (p : Participant) (a : LogRecord) → Asks p → leads (Participant.onAnswer n i p j a) ≡ canGet p a
 answer-leads n i j Waiting a h = absurd h
 answer-leads n i j VotingYes None h = refl
 answer-leads n i j VotingYes Yes h = refl
@@ -196,14 +196,14 @@ answered-moves true i j x (To p s) r = participant-due i p s (called (suc i) j (
 answered-moves false i j x (To p s) r = refl
 
 performed-moves : (heard : Bool) (i j : ℕ) (s : Performed) (r : Release) → CallOf (participantOf r i) s
-    → moves (participantPerformed heard i j s r .outcome) ≡ answerable (Participant.stateNumber (participantOf r i)) s
+    → moves (participantPerformed heard i j s r .outcome) ≡ answerable (participantOf r i) s
 performed-moves heard i j Performed.Refused r c = refl
 performed-moves heard i j (Performed.Done x) r c =
     answered-moves heard i j x (Participant.onAnswer (r .n) i (participantOf r i) j (x .answer)) r ∙ answer-leads (r .n) i j (participantOf r i) (x .answer) c
 
 -- the coordinator hears as a participant does in 4
 
-heard-leads : (n h : ℕ) (a : LogRecord) → coordinatorLeads (Coordinator.onHeard n h a) ≡ canGet 4 a
+heard-leads : (n h : ℕ) (a : LogRecord) → coordinatorLeads (Coordinator.onHeard n h a) ≡ canGet (Terminating 0) a
 heard-leads n h None = refl
 heard-leads n h Yes = enters-leads (Coordinator.unlessFull n h (Coordinator.Terminating h))
 heard-leads n h Abort = refl
@@ -217,7 +217,7 @@ coordinator-answered-moves false j x (CoordinatorTransition.To c s) r = refl
 
 abbrev CoordinatorCallOf : Coordinator → Performed → Type 0
 CoordinatorCallOf c Performed.Refused = Unit {0}
-CoordinatorCallOf c (Performed.Done x) = (n j : ℕ) → coordinatorLeads (Coordinator.onAnswer n c j (x .answer)) ≡ canGet 4 (x .answer)
+CoordinatorCallOf c (Performed.Done x) = (n j : ℕ) → coordinatorLeads (Coordinator.onAnswer n c j (x .answer)) ≡ canGet (Terminating 0) (x .answer)
 
 terminating-asks : (h : ℕ) (s : Performed) → CoordinatorCallOf (Coordinator.Terminating h) s
 terminating-asks h Performed.Refused = tt
@@ -233,7 +233,7 @@ coordinator-pending-asks Coordinator.Down j l = tt
 coordinator-pending-asks Coordinator.Retired j l = tt
 
 coordinator-performed-moves : (heard : Bool) (j : ℕ) (s : Performed) (r : Release) → CoordinatorCallOf (r .coordinator) s
-    → moves (coordinatorPerformed heard j s r .outcome) ≡ answerable 4 s
+    → moves (coordinatorPerformed heard j s r .outcome) ≡ answerable (Terminating 0) s
 coordinator-performed-moves heard j Performed.Refused r c = refl
 coordinator-performed-moves heard j (Performed.Done x) r c =
     coordinator-answered-moves heard j x (Coordinator.onAnswer (r .n) (r .coordinator) j (x .answer)) r ∙ c (r .n) j

@@ -16,13 +16,14 @@ use Rattle.party.specs.Coordinator
 use Rattle.release.specs.State.{participantOf, firstOf, waiting}
 use Rattle.release.specs.Report.{moves}
 use Rattle.release.specs.Step.{called, drop, reply, participantTo, coordinatorTo, coordinatorGoes, receive, step}
-use Rattle.release.specs.Run.{InRange, AllInRange, after}
+use Rattle.release.specs.Run.{AllInRange, after}
 use Rattle.release.specs.Demand.{isCallOf, answered, AllUndisturbed}
 use Rattle.release.specs.Types.{Logged, Participant, Terminating, Site, Sent, Decision, To, Coordinator, CoordinatorTransition, Message, Step, Start, Deliver, Copy, Timeout, Crash, Restart, Outcome, Release, Report}
 use Rattle.release.proofs.FirstRecords.{true-false}
 use Rattle.release.proofs.Invariant.{Inv}
 use Rattle.release.proofs.Updates.{set-all, Good, drop-inv}
 use Rattle.release.proofs.Calls.{Guard}
+use Rattle.release.proofs.Bounds.{Bounds, bounds}
 use Rattle.release.proofs.Causes.{ParticipantCall, Cause, idles, starts, delivers, copies, loses, answered as call-answered, lost, coordinator-answered, coordinator-lost, times-out, crashes, restarts, coordinator-times-out, coordinator-crashes, coordinator-restarts, cause}
 use Rattle.release.proofs.Safety.{call-guard, step-good}
 use Rattle.release.proofs.Rank.{rank, request-rank, decision-rank, timeout-rank, restart-rank, answer-rank, guarded-rank}
@@ -130,7 +131,7 @@ record Quiet (i : ℕ) (r : Release) (s : Step) (o : Outcome) : Type 0 where
   crash : s ≡ Crash (suc i) → moves o ≡ false
   timeout : (h : ℕ) → s ≡ Timeout (suc i) → participantOf r i ≡ Terminating h → moves o ≡ false
 
-caused-loses : (r : Release) (i : ℕ) {s : Step} {t : Report} → Cause r s t → i < r .n → InRange (r .n) s → Inv r → Quiet i r s (t .outcome) → Loses r i s t
+caused-loses : (r : Release) (i : ℕ) {s : Step} {t : Report} → Cause r s t → i < r .n → Bounds (r .n) s → Inv r → Quiet i r s (t .outcome) → Loses r i s t
 caused-loses r i (idles {s}) h g v c = idle-loses (isCallOf i s)
   where
     idle-loses : (b : Bool) → cond (b && false) 1 0 + rank (r .n) (participantOf r i) ≤ rank (r .n) (participantOf r i)
@@ -174,4 +175,4 @@ progress r i (s ∷ ss) h g v c =
     let k : Good r (step r s) = step-good r s (g .0) v in
     let below : answered i (step r s .next) ss + rank (r .n) (participantOf (after (step r s .next) ss) i) ≤ rank (r .n) (participantOf (step r s .next) i) =
     rw (k .same-n) at (progress (step r s .next) i ss (rw (k .same-n) h) (rw (k .same-n) (g .1)) (k .inv) (c .1)) in
-    omega (arith, caused-loses r i (cause r s) h (g .0) v (record { crash = c .0 .crash; timeout = c .0 .timeout }))
+    omega (arith, caused-loses r i (cause r s) h (bounds (r .n) s (g .0)) v (record { crash = c .0 .crash; timeout = c .0 .timeout }))

@@ -1,32 +1,66 @@
 -- Every release that a run reaches is in range, and keeps its logs. Assumes nothing.
-use mathlib.Core.Path.{_≡_, refl, sym, _∙_}
+use mathlib.Core.Path.{_≡_, refl, sym, ap, _∙_}
 use mathlib.Core.Logic.{_≢_}
 use mathlib.Core.List.{List, [], _∷_}
-use mathlib.Core.Bool.{Bool, true, false}
+use mathlib.Core.Bool.{Bool, true, false, not}
 use Prim.Native.Nat.{ℕ, suc, _+_, _^_, _≤_, _<_}
 use native.Mathlib.Omega.{arith}
 use lib.Dec.{eqb}
 use lib.Pow.{pow-pos}
 use lib.ListN.{getD}
-use borrow.Author.Tests.{eqb-false}
+use borrow.Author.Tests.{eqb-false, ne-eqb}
+use Rattle.number.proofs.Laws.{and-true}
 use Rattle.mask.specs.Mask.{has, insert, remove, full}
-use Rattle.mask.proofs.Laws.{insert-lt, remove-le, full-lt, full-more, has-zero, has-full, has-insert-other, not-inserted}
+use Rattle.mask.proofs.Laws.{lt-within, within-lt, insert-lt, remove-le, full-lt, full-more, has-zero, has-full, has-insert-other, not-inserted}
 use Rattle.store.specs.Log.{allowed, empty}
 use Rattle.party.specs.Participant
 use Rattle.party.specs.Coordinator
 use Rattle.party.proofs.Cases.{cond-cases, answer-cases, request-cases, decision-cases, timeout-cases, crash-cases, restart-cases, start-cases, replyYes-cases, replyAbort-cases, coordinator-timeout-cases, coordinator-answer-cases, coordinator-crash-cases, coordinator-restart-cases, enters-cases}
 use Rattle.release.specs.State.{participantOf, participantAt, logOf, logAt, firstOf, lastOf, maskAt, maskOf, waiting, fresh}
 use Rattle.release.specs.Step.{called, send, sendAll, drop, withMask, withParticipant, participantTo, withCoordinator, coordinatorTo, coordinatorGoes, receive, step}
-use Rattle.release.specs.Run.{InRange, AllInRange, after}
-use Rattle.release.specs.Range.{ParticipantInRange, CoordinatorHeardInRange, CoordinatorInRange, ReleaseInRange, ReachedInRange, LogsKept, ReachedKept}
-use Rattle.release.specs.Types.{LogRecord, None, Yes, Abort, Commit, LogPair, Participant, Waiting, VotingYes, Closing, Terminating, RecordingCommit, Site, Sent, Decision, Transition, NotDue, To, Coordinator, CoordinatorTransition, Message, Step, Release, Report}
+use Rattle.release.specs.Run.{AllInRange, after}
+use Rattle.release.specs.Range.{ReleaseInRange, ReachedInRange, LogsKept, ReachedKept}
+use Rattle.release.specs.Types.{LogRecord, None, Yes, Abort, Commit, LogPair, Participant, Waiting, VotingYes, Closing, Uncertain, Terminating, RecordingCommit, RecordingAbort, DoneCommit, DoneAbort, Down, Site, Sent, Decision, Transition, NotDue, To, Coordinator, CoordinatorTransition, Message, Step, Release, Report}
 use Rattle.release.proofs.FirstRecords.{Keep, true-false}
 use Rattle.release.proofs.Invariant.{Inv, Allowed}
 use Rattle.release.proofs.Updates.{set-all, mask-all, Good}
 use Rattle.release.proofs.Calls.{Guard}
+use Rattle.release.proofs.Bounds.{Bounds, bounds}
 use Rattle.release.proofs.Causes.{Cause, idles, starts, delivers, copies, loses, answered, lost, coordinator-answered, coordinator-lost, times-out, crashes, restarts, coordinator-times-out, coordinator-crashes, coordinator-restarts, cause}
 use Rattle.release.proofs.Safety.{call-guard, step-good}
 use Rattle.release.proofs.Agreement.{replicate-all, fresh-inv, fresh-mask, after-append, range-left, range-right, Later, later}
+
+-- the ranges as propositions
+
+pub record HeardInRange (n i h : ℕ) : Type 0 where
+  pub below : h < 2 ^ n
+  pub others : has i h ≡ false
+  pub part : insert i h ≢ full n
+
+abbrev pub ParticipantInRange : ℕ → ℕ → Participant → Type 0
+ParticipantInRange n i Waiting = Unit {0}
+ParticipantInRange n i VotingYes = Unit {0}
+ParticipantInRange n i Closing = Unit {0}
+ParticipantInRange n i Uncertain = Unit {0}
+ParticipantInRange n i (Terminating h) = HeardInRange n i h
+ParticipantInRange n i RecordingCommit = Unit {0}
+ParticipantInRange n i RecordingAbort = Unit {0}
+ParticipantInRange n i DoneCommit = Unit {0}
+ParticipantInRange n i DoneAbort = Unit {0}
+ParticipantInRange n i Down = Unit {0}
+
+pub record CoordinatorHeardInRange (n h : ℕ) : Type 0 where
+  pub below : h < 2 ^ n
+  pub part : h ≢ full n
+
+abbrev pub CoordinatorInRange : ℕ → Coordinator → Type 0
+CoordinatorInRange n Coordinator.Idle = Unit {0}
+CoordinatorInRange n (Coordinator.Waiting h) = CoordinatorHeardInRange n h
+CoordinatorInRange n (Coordinator.Terminating h) = CoordinatorHeardInRange n h
+CoordinatorInRange n Coordinator.Commit = Unit {0}
+CoordinatorInRange n Coordinator.Abort = Unit {0}
+CoordinatorInRange n Coordinator.Down = Unit {0}
+CoordinatorInRange n Coordinator.Retired = Unit {0}
 
 -- the ranges that a step keeps, over the parts that they read. Pairs allowed follow from the invariant
 pub record Ranges (n votes : ℕ) (c : Coordinator) (messages : List ℕ) (sites : List Site) (logs : List LogPair) (calls : List ℕ) : Type 0 where
@@ -217,7 +251,7 @@ receive-ranged r Message.Commit i h b =
 receive-ranged r Message.Abort i h b =
     to-ranged r i (Participant.onDecision Decision.Abort (participantOf r i)) Sent.Nothing h b (decision-range (r .n) i h Decision.Abort (participantOf r i) (b .participants i h))
 
-caused-ranged : (r : Release) {s : Step} {t : Report} → Cause r s t → InRange (r .n) s → Inv r → Ranged r → Ranged (t .next)
+caused-ranged : (r : Release) {s : Step} {t : Report} → Cause r s t → Bounds (r .n) s → Inv r → Ranged r → Ranged (t .next)
 caused-ranged r idles h v b = b
 caused-ranged r (starts {c} {x} q) h v b =
     coordinator-ranged r c x b (rw q at (start-cases (CoordinatorToInRange (r .n)) (none-heard (r .n) (b .positive)) tt (r .coordinator)))
@@ -245,7 +279,7 @@ pub ranged-from : (r : Release) (ss : List Step) → AllInRange (r .n) ss → In
 ranged-from r [] h v b = b
 ranged-from r (s ∷ ss) h v b =
     let g : Good r (step r s) = step-good r s (h .0) v in
-    ranged-from (step r s .next) ss (rw (g .same-n) (h .1)) (g .inv) (caused-ranged r (cause r s) (h .0) v b)
+    ranged-from (step r s .next) ss (rw (g .same-n) (h .1)) (g .inv) (caused-ranged r (cause r s) (bounds (r .n) s (h .0)) v b)
 
 -- a pair that the invariant allows is allowed
 pair-allowed : (n : ℕ) (F : ℕ → LogRecord) (first last : LogRecord) → Allowed n F first last → allowed first last ≡ true
@@ -263,14 +297,41 @@ pair-allowed n F Abort Abort a = refl
 pair-allowed n F Abort Commit a = absurd a
 pair-allowed n F Commit last a = absurd a
 
+-- the propositions give the tests
+
+participant-tested : (n i : ℕ) (p : Participant) → ParticipantInRange n i p → Participant.inRange n i p ≡ true
+participant-tested n i Waiting h = refl
+participant-tested n i VotingYes h = refl
+participant-tested n i Closing h = refl
+participant-tested n i Uncertain h = refl
+participant-tested n i (Terminating x) h =
+    and-true _ _ (lt-within n x (h .below)) (and-true _ _ (ap not (h .others)) (ap not (ne-eqb (insert i x) (full n) (h .part))))
+participant-tested n i RecordingCommit h = refl
+participant-tested n i RecordingAbort h = refl
+participant-tested n i DoneCommit h = refl
+participant-tested n i DoneAbort h = refl
+participant-tested n i Down h = refl
+
+coordinator-heard-tested : (n h : ℕ) → CoordinatorHeardInRange n h → Coordinator.heardInRange n h ≡ true
+coordinator-heard-tested n x h = and-true _ _ (lt-within n x (h .below)) (ap not (ne-eqb x (full n) (h .part)))
+
+coordinator-tested : (n : ℕ) (c : Coordinator) → CoordinatorInRange n c → Coordinator.inRange n c ≡ true
+coordinator-tested n Coordinator.Idle h = refl
+coordinator-tested n (Coordinator.Waiting x) h = coordinator-heard-tested n x h
+coordinator-tested n (Coordinator.Terminating x) h = coordinator-heard-tested n x h
+coordinator-tested n Coordinator.Commit h = refl
+coordinator-tested n Coordinator.Abort h = refl
+coordinator-tested n Coordinator.Down h = refl
+coordinator-tested n Coordinator.Retired h = refl
+
 pub in-range : (r : Release) → Inv r → Ranged r → ReleaseInRange r
 in-range r v b =
     record {
       positive = b .positive;
-      votes = b .votes-range;
-      coordinator = b .coordinator;
-      messages = b .masks;
-      participants = b .participants;
+      votes = lt-within (r .n) (r .votes) (b .votes-range);
+      coordinator = coordinator-tested (r .n) (r .coordinator) (b .coordinator);
+      messages = λ m. lt-within (r .n) (maskOf r m) (b .masks m);
+      participants = λ i l. participant-tested (r .n) i (participantOf r i) (b .participants i l);
       logs = λ j l. pair-allowed (r .n) (firstOf r) (firstOf r j) (lastOf r j) (v .pairs j l);
       participants-beyond = b .participants-beyond;
       logs-beyond = b .logs-beyond;
@@ -293,7 +354,7 @@ fresh-ranged places n votes h k =
 pub reached-in-range : ReachedInRange
 reached-in-range places n votes h fits k steps g =
     in-range (after (fresh places n votes) steps) (later (fresh places n votes) steps g (fresh-inv places n votes fits) .inv)
-    (ranged-from (fresh places n votes) steps g (fresh-inv places n votes fits) (fresh-ranged places n votes h k))
+    (ranged-from (fresh places n votes) steps g (fresh-inv places n votes fits) (fresh-ranged places n votes h (within-lt n votes k)))
 
 -- a first record that is there stays: it is a vote
 first-kept : (n : ℕ) (F : ℕ → LogRecord) (first last : LogRecord) (new : LogPair) → Allowed n F first last → Keep (record { first = first; last = last }) new

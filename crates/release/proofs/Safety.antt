@@ -1,5 +1,6 @@
 -- Every step keeps the invariant, and its report is true. Assumes nothing.
 use mathlib.Core.Path.{_≡_, refl, sym, _∙_, ap}
+use mathlib.Core.Bool.{true}
 use Prim.Native.Nat.{ℕ, suc, _<_}
 use Rattle.mask.specs.Mask.{has}
 use Rattle.store.specs.Log.{perform}
@@ -8,13 +9,14 @@ use Rattle.party.specs.Participant
 use Rattle.party.specs.Coordinator
 use Rattle.release.specs.State.{participantOf, logOf, firstOf, lastOf}
 use Rattle.release.specs.Step.{called, drop, moved, participantTo, participantGoes, coordinatorTo, coordinatorGoes, receive, step}
-use Rattle.release.specs.Run.{InRange}
+use Rattle.schedule.specs.Step.{inRange}
 use Rattle.release.specs.Types.{LogRecord, LogPair, Call, Logged, Performed, Participant, Sent, Decision, Transition, NotDue, To, Coordinator, CoordinatorTransition, Message, Step, Release, Report}
 use Rattle.release.proofs.FirstRecords.{still, Keeps, keeps-refl, keeps-trans}
 use Rattle.release.proofs.Invariant.{Tells, Inv, participantClaim, coordinatorClaim}
 use Rattle.release.proofs.Updates.{drop-inv, Change, called-at, called-keeps, called-inv, Good, idle-good, participant-good, coordinator-good}
 use Rattle.release.proofs.Calls.{Says, says, Pends, Guard, CallFits, perform-fits, pending-fits, coordinator-pending-fits}
 use Rattle.release.proofs.Transitions.{Stands, Fits, CoordinatorFits, request-stands, decision-stands, timeout-fits, crash-fits, restart-fits, answer-fits, start-fits, replyYes-fits, replyAbort-fits, coordinator-timeout-fits, coordinator-crash-fits, coordinator-restart-fits, coordinator-answer-fits}
+use Rattle.release.proofs.Bounds.{Bounds, bounds}
 use Rattle.release.proofs.Causes.{Cause, idles, starts, delivers, copies, loses, answered, lost, coordinator-answered, coordinator-lost, times-out, crashes, restarts, coordinator-times-out, coordinator-crashes, coordinator-restarts, cause}
 
 moved-good : (r s : Release) → Inv s → s .n ≡ r .n → Keeps (logOf r) (logOf s) → Good r (moved s)
@@ -134,7 +136,7 @@ called-good : (r : Release) (p j : ℕ) (l : LogPair) (t : Report) → Inv r →
     → (Inv (called p j l r) → Good (called p j l r) t) → Good r t
 called-good r p j l t v ch g = after-good r (called p j l r) t refl (called-keeps r p j l (ch .keep)) (g (called-inv r p j l v ch))
 
-caused-good : (r : Release) {s : Step} {t : Report} → Cause r s t → InRange (r .n) s → Inv r → Good r t
+caused-good : (r : Release) {s : Step} {t : Report} → Cause r s t → Bounds (r .n) s → Inv r → Good r t
 caused-good r idles h v = idle-good r v
 caused-good r (starts {c} {x} q) h v = coordinator-goes-good r (CoordinatorTransition.To c x) v (rw q at (start-fits (r .n) (firstOf r) (r .coordinator)))
 caused-good r (delivers {m} {i} b) h v =
@@ -163,5 +165,5 @@ caused-good r (coordinator-crashes {c} {x} q) h v =
 caused-good r (coordinator-restarts {c} {x} q) h v =
     coordinator-goes-good r (CoordinatorTransition.To c x) v (rw q at (coordinator-restart-fits (r .n) (firstOf r) (r .coordinator)))
 
-pub step-good : (r : Release) (s : Step) → InRange (r .n) s → Inv r → Good r (step r s)
-step-good r s h v = caused-good r (cause r s) h v
+pub step-good : (r : Release) (s : Step) → inRange (r .n) s ≡ true → Inv r → Good r (step r s)
+step-good r s h v = caused-good r (cause r s) (bounds (r .n) s h) v

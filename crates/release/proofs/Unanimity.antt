@@ -16,12 +16,13 @@ use Rattle.party.proofs.Cases.{cond-cases, answer-cases, request-cases, decisio
 use Rattle.release.specs.State.{participantOf, participantAt, logOf, logAt, firstOf, waiting, fresh}
 use Rattle.release.specs.Report.{moves}
 use Rattle.release.specs.Step.{called, drop, withParticipant, participantTo, coordinatorTo, coordinatorGoes, receive, step}
-use Rattle.release.specs.Run.{InRange, AllInRange}
+use Rattle.release.specs.Run.{AllInRange}
 use Rattle.release.specs.Demand.{SomeAbort, Reported, AllCalm}
 use Rattle.release.specs.Types.{LogRecord, None, Yes, Abort, Commit, LogPair, Call, Logged, Performed, Participant, Waiting, VotingYes, Closing, Uncertain, Terminating, RecordingCommit, RecordingAbort, DoneCommit, DoneAbort, Down, Site, Sent, Decision, Transition, NotDue, To, Coordinator, CoordinatorTransition, Message, Step, Timeout, Restart, Outcome, Release, Report}
 use Rattle.release.proofs.FirstRecords.{true-false}
 use Rattle.release.proofs.Invariant.{Inv}
 use Rattle.release.proofs.Updates.{set-all, Good}
+use Rattle.release.proofs.Bounds.{Bounds, bounds}
 use Rattle.release.proofs.Causes.{ParticipantCall, CoordinatorCall, Cause, idles, starts, delivers, copies, loses, answered, lost, coordinator-answered, coordinator-lost, times-out, crashes, restarts, coordinator-times-out, coordinator-crashes, coordinator-restarts, cause}
 use Rattle.release.proofs.Safety.{step-good}
 use Rattle.release.proofs.Agreement.{replicate-all}
@@ -243,7 +244,7 @@ record Quiet (s : Step) (o : Outcome) : Type 0 where
   timeout : (p : ℕ) → s ≡ Timeout p → moves o ≡ false
   restart : (p : ℕ) → s ≡ Restart p → moves o ≡ false
 
-caused-unanimous : (r : Release) {s : Step} {t : Report} → Cause r s t → InRange (r .n) s → Quiet s (t .outcome) → Unanimous r → Unanimous (t .next)
+caused-unanimous : (r : Release) {s : Step} {t : Report} → Cause r s t → Bounds (r .n) s → Quiet s (t .outcome) → Unanimous r → Unanimous (t .next)
 caused-unanimous r idles h d u = u
 caused-unanimous r (starts {c} {x} q) h d u = coordinator-unanimous r c x u (rw q at (start-cases CoordinatorWillingTo tt tt (r .coordinator)))
 caused-unanimous r (delivers {m} {i} b) h d u = receive-unanimous (drop m i r) m i (h .1) u
@@ -274,7 +275,7 @@ no-abort-from r (s ∷ ss) h d v u m = go (List·Memᴰ·cases-cons m) (no-abort
     g = step-good r s (h .0) v
 
     next : Unanimous (step r s .next)
-    next = caused-unanimous r (cause r s) (h .0) (record { timeout = d .0 .timeout; restart = d .0 .restart }) u
+    next = caused-unanimous r (cause r s) (bounds (r .n) s (h .0)) (record { timeout = d .0 .timeout; restart = d .0 .restart }) u
 
     go : (Outcome.Abort ≡ step r s .outcome) ⊎ Reported Outcome.Abort (step r s .next) ss
         → (AllInRange (step r s .next .n) ss → AllCalm (step r s .next) ss → Inv (step r s .next) → Unanimous (step r s .next)

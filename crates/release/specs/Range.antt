@@ -2,55 +2,25 @@
 -- write-once, and a recorded decision never changes. Proved in proofs/Reached.antt. Assumes nothing.
 use mathlib.Core.Path.{_≡_}
 use mathlib.Core.Logic.{_≢_}
-use mathlib.Core.Bool.{true, false}
+use mathlib.Core.Bool.{true}
 use mathlib.Core.List.{List, _++_}
-use Prim.Native.Nat.{ℕ, _^_, _≤_, _<_}
+use Prim.Native.Nat.{ℕ, _≤_, _<_}
 use lib.ListN.{getD}
-use Rattle.mask.specs.Mask.{has, insert, full}
+use Rattle.mask.specs.Mask.{within}
 use Rattle.store.specs.Log.{empty, isAllowed}
+use Rattle.party.specs.Participant
+use Rattle.party.specs.Coordinator
 use Rattle.release.specs.State.{participantOf, logOf, firstOf, lastOf, maskOf, fresh}
 use Rattle.release.specs.Run.{after, AllInRange}
-use Rattle.release.specs.Types.{None, Abort, Commit, Message, Participant, Waiting, VotingYes, Closing, Uncertain, Terminating, RecordingCommit, RecordingAbort, DoneCommit, DoneAbort, Down, Coordinator, Release, Step}
-
--- In 4 a participant has a heard mask: within n, never its own bit, never full
-pub record HeardInRange (n i h : ℕ) : Type 0 where
-  pub below : h < 2 ^ n
-  pub others : has i h ≡ false
-  pub part : insert i h ≢ full n
-
-abbrev pub ParticipantInRange : ℕ → ℕ → Participant → Type 0
-ParticipantInRange n i Waiting = Unit {0}
-ParticipantInRange n i VotingYes = Unit {0}
-ParticipantInRange n i Closing = Unit {0}
-ParticipantInRange n i Uncertain = Unit {0}
-ParticipantInRange n i (Terminating h) = HeardInRange n i h
-ParticipantInRange n i RecordingCommit = Unit {0}
-ParticipantInRange n i RecordingAbort = Unit {0}
-ParticipantInRange n i DoneCommit = Unit {0}
-ParticipantInRange n i DoneAbort = Unit {0}
-ParticipantInRange n i Down = Unit {0}
-
--- In 1 and 2 the coordinator has one: within n, never full
-pub record CoordinatorHeardInRange (n h : ℕ) : Type 0 where
-  pub below : h < 2 ^ n
-  pub part : h ≢ full n
-
-abbrev pub CoordinatorInRange : ℕ → Coordinator → Type 0
-CoordinatorInRange n Coordinator.Idle = Unit {0}
-CoordinatorInRange n (Coordinator.Waiting h) = CoordinatorHeardInRange n h
-CoordinatorInRange n (Coordinator.Terminating h) = CoordinatorHeardInRange n h
-CoordinatorInRange n Coordinator.Commit = Unit {0}
-CoordinatorInRange n Coordinator.Abort = Unit {0}
-CoordinatorInRange n Coordinator.Down = Unit {0}
-CoordinatorInRange n Coordinator.Retired = Unit {0}
+use Rattle.release.specs.Types.{None, Abort, Commit, Message, Waiting, Release, Step}
 
 -- the fields of the tail, zeros beyond n
 pub record ReleaseInRange (r : Release) : Type 0 where
   pub positive : 1 ≤ r .n
-  pub votes : r .votes < 2 ^ r .n
-  pub coordinator : CoordinatorInRange (r .n) (r .coordinator)
-  pub messages : (m : Message) → maskOf r m < 2 ^ r .n
-  pub participants : (i : ℕ) → i < r .n → ParticipantInRange (r .n) i (participantOf r i)
+  pub votes : within (r .n) (r .votes) ≡ true
+  pub coordinator : Coordinator.inRange (r .n) (r .coordinator) ≡ true
+  pub messages : (m : Message) → within (r .n) (maskOf r m) ≡ true
+  pub participants : (i : ℕ) → i < r .n → Participant.inRange (r .n) i (participantOf r i) ≡ true
   pub logs : (j : ℕ) → j < r .n → isAllowed (logOf r j) ≡ true
   pub participants-beyond : (i : ℕ) → r .n ≤ i → participantOf r i ≡ Waiting
   pub logs-beyond : (j : ℕ) → r .n ≤ j → logOf r j ≡ empty
@@ -58,7 +28,7 @@ pub record ReleaseInRange (r : Release) : Type 0 where
 
 abbrev pub ReachedInRange : Type 0
 ReachedInRange =
-    (places n votes : ℕ) → 1 ≤ n → n ≤ places → votes < 2 ^ n → (steps : List Step) → AllInRange n steps → ReleaseInRange (after (fresh places n votes) steps)
+    (places n votes : ℕ) → 1 ≤ n → n ≤ places → within n votes ≡ true → (steps : List Step) → AllInRange n steps → ReleaseInRange (after (fresh places n votes) steps)
 
 -- from r to a later t: first records are write-once, and a recorded decision never changes
 pub record LogsKept (r t : Release) : Type 0 where

@@ -17,7 +17,7 @@ pub use Rattle.party.specs.declared.coordinator.Coordinator.{Coordinator}
 pub use Rattle.party.specs.declared.coordinator.Transition.{Transition as CoordinatorTransition}
 pub use Rattle.release.specs.declared.Site.{Site}
 pub use Rattle.release.specs.declared.Release.{Release}
-pub use Rattle.release.specs.declared.Step.{Step}
-pub use Rattle.release.specs.declared.Step.the-variants.{Start, Deliver, Copy, Lose, Timeout, Crash, Restart}
+pub use Rattle.schedule.specs.declared.Step.{Step}
+pub use Rattle.schedule.specs.declared.Step.the-variants.{Start, Deliver, Copy, Lose, Timeout, Crash, Restart}
 pub use Rattle.release.specs.declared.Outcome.{Outcome}
 pub use Rattle.release.specs.declared.Report.{Report}

@@ -1,5 +1,4 @@
 // One release: its parties, their logs and the messages in flight; the steps; and what a step reports.
-use party::Message;
 use party::coordinator::Coordinator;
 use party::participant::Participant;
 use store::LOGS;
@@ -26,19 +25,6 @@ pub struct Release {
     pub sites: [Site; LOGS],
     pub store: Store,
     pub calls: [u16; PARTIES],
-}
-
-// A step, by its kind. A message goes by its type and participant, a call by its party and log; all are numbers as in a schedule.
-pub enum Step {
-    Start,
-    Deliver(Message, u32),
-    Copy(Message, u32),
-    Lose(Message, u32),
-    Call(u32, u32),
-    CallLost(u32, u32),
-    Timeout(u32),
-    Crash(u32),
-    Restart(u32),
 }
 
 // What a step reports.
