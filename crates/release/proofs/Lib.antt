@@ -1,4 +1,5 @@
 pub mod FirstRecords
+pub mod Places
 pub mod Bounds
 pub mod Causes
 pub mod Invariant

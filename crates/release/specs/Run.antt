@@ -40,6 +40,10 @@ abbrev pub callsMade : ℕ → Release → List Step → ℕ
 callsMade p r [] = 0
 callsMade p r (s ∷ ss) = cond (isStoreCallOf p s && isDue r s) 1 0 + callsMade p (step r s .next) ss
 
+-- a count of two bytes has room for one call more
+abbrev pub Countable : List ℕ → Type 0
+Countable calls = (p : ℕ) → getD calls p 0 < 65535
+
 -- a release counts them: proved in proofs/Counts.antt
 abbrev pub CallsCounted : Type 0
 CallsCounted = (r : Release) (steps : List Step) (p : ℕ) → p < length (r .calls) → getD (after r steps .calls) p 0 ≡ getD (r .calls) p 0 + callsMade p r steps

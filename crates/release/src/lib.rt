@@ -1,8 +1,11 @@
-// One release: its parties, their logs and the messages in flight; the steps; and what a step reports.
+// One release: its parties, their logs and the messages in flight; one step; the fields of the tail; and the single step.
 use party::coordinator::Coordinator;
 use party::participant::Participant;
 use store::LOGS;
 use store::Store;
+
+pub mod state;
+pub mod step;
 
 // How many types of messages there are.
 pub const TYPES: usize = 5;
