@@ -1,3 +1,4 @@
+use mathlib.Core.Path.{sym, _∙_}
 use borrow.Author.Needs.{needs}
 use Rattle.release.proofs.Release.coordinator_answered.Statement.{statement}
 use Rattle.release.proofs.Release.coordinator_answered.Tie as tie
@@ -26,7 +27,7 @@ called-requires c κs = search needs
 
 -- src/step.rt:276:21
 coordinator-to-requires : tie.Need-coordinator-to-requires
-coordinator-to-requires c κs = ?
+coordinator-to-requires c κs = rw (c .before .called .ensures) (c .before .before .before .before .before .before .pre .0)
 
 -- src/step.rt:278:21
 moved-requires : tie.Need-moved-requires
@@ -34,15 +35,15 @@ moved-requires c κs = search needs
 
 -- src/step.rt:260:5
 returns : tie.Need-returns
-returns c = ?
+returns c = simp (c .idle .ensures, c .before .enum-told .given .1)
 
 -- src/step.rt:260:5
 returns-2 : tie.Need-returns-2
-returns-2 c = ?
+returns-2 c = simp (c .coordinator-to .ensures, c .before .if1 .taken, c .before .before .called .ensures, c .before .before .before .before .before .t .given .1)
 
 -- src/step.rt:260:5
 returns-3 : tie.Need-returns-3
-returns-3 c = ?
+returns-3 c = simp (c .moved .ensures, c .before .if1 .left, c .before .before .called .ensures, c .before .before .before .before .before .t .given .1)
 
 pub coordinator-answered-spec : {M : Type 1} → statement M
 coordinator-answered-spec =

@@ -1,3 +1,4 @@
+use Rattle.release.specs.Step.{coordinatorCalls}
 use borrow.Author.Needs.{needs}
 use Rattle.release.proofs.Release.coordinator_calls.Statement.{statement}
 use Rattle.release.proofs.Release.coordinator_calls.Tie as tie
@@ -26,7 +27,13 @@ coordinator-performed-requires c κs = search needs
 
 -- src/step.rt:298:5
 returns : tie.Need-returns
-returns c = ?
+unfolding coordinatorCalls
+returns c =
+    simp
+    (c .coordinator-performed .ensures,
+    c .before .perform .ensures,
+    c .before .before .pending .ensures,
+    c .before .before .before .log-of .ensures)
 
 pub coordinator-calls-spec : {M : Type 1} → statement M
 coordinator-calls-spec =

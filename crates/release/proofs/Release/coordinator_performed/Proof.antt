@@ -29,11 +29,11 @@ coordinator-answered-requires c κs = search needs
 
 -- src/step.rt:284:5
 returns : tie.Need-returns
-returns c = ?
+returns c = simp (c .idle .ensures, c .before .enum-told .given .1)
 
 -- src/step.rt:284:5
 returns-2 : tie.Need-returns-2
-returns-2 c = ?
+returns-2 c = simp (c .coordinator-answered .ensures, c .before .answer .ensures, c .before .before .before .x .given .1)
 
 pub coordinator-performed-spec : {M : Type 1} → statement M
 coordinator-performed-spec =

@@ -1,3 +1,6 @@
+use native.Mathlib.Omega.{arith}
+use Rattle.release.proofs.Places.{copy-at}
+use mathlib.Core.Path.{sym, _∙_}
 use borrow.Author.Needs.{needs}
 use Rattle.release.proofs.Release.copy.Statement.{statement}
 use Rattle.release.proofs.Release.copy.Tie as tie
@@ -25,11 +28,11 @@ idle-requires c κs = search needs
 
 -- src/step.rt:351:5
 returns : tie.Need-returns
-returns c = ?
+returns c = simp (c .receive .ensures, copy-at (c .before .before .before .args .self) (c .before .before .before .args .m) (c .before .before .before .args .p), sym (c .before .before .in-flight .ensures) ∙ c .before .if1 .taken)
 
 -- src/step.rt:351:5
 returns-2 : tie.Need-returns-2
-returns-2 c = ?
+returns-2 c = simp (c .idle .ensures, copy-at (c .before .before .before .args .self) (c .before .before .before .args .m) (c .before .before .before .args .p), sym (c .before .before .in-flight .ensures) ∙ c .before .if1 .left)
 
 pub copy-spec : {M : Type 1} → statement M
 copy-spec =

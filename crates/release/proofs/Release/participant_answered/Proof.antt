@@ -1,3 +1,5 @@
+use native.Mathlib.Numerals.{add-one}
+use mathlib.Core.Path.{sym, _∙_}
 use borrow.Author.Needs.{needs}
 use Rattle.release.proofs.Release.participant_answered.Statement.{statement}
 use Rattle.release.proofs.Release.participant_answered.Tie as tie
@@ -38,15 +40,16 @@ moved-requires c κs = search needs
 
 -- src/step.rt:212:5
 returns : tie.Need-returns
-returns c = ?
+returns c = simp (c .idle .ensures, c .before .enum-told .given .1)
 
 -- src/step.rt:212:5
 returns-2 : tie.Need-returns-2
-returns-2 c = ?
+returns-2 c = simp
+    (← add-one (c .before .before .before .before .before .before .before .args .i), c .participant-to .ensures, c .before .if1 .taken, c .before .before .called .ensures, c .before .before .before .before .before .t .given .1)
 
 -- src/step.rt:212:5
 returns-3 : tie.Need-returns-3
-returns-3 c = ?
+returns-3 c = simp (← add-one (c .before .before .before .before .before .before .before .args .i), c .moved .ensures, c .before .if1 .left, c .before .before .called .ensures, c .before .before .before .before .before .t .given .1)
 
 pub participant-answered-spec : {M : Type 1} → statement M
 participant-answered-spec =

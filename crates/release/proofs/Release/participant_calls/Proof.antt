@@ -1,3 +1,4 @@
+use Rattle.release.specs.Step.{participantCalls}
 use borrow.Author.Needs.{needs}
 use Rattle.release.proofs.Release.participant_calls.Statement.{statement}
 use Rattle.release.proofs.Release.participant_calls.Tie as tie
@@ -31,7 +32,14 @@ participant-performed-requires c κs = search needs
 
 -- src/step.rt:251:5
 returns : tie.Need-returns
-returns c = ?
+unfolding participantCalls
+returns c =
+    simp
+    (c .participant-performed .ensures,
+    c .before .perform .ensures,
+    c .before .before .log-of .ensures,
+    c .before .before .before .pending .ensures,
+    c .before .before .before .before .participant-of .ensures)
 
 pub participant-calls-spec : {M : Type 1} → statement M
 participant-calls-spec =

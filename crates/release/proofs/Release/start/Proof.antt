@@ -16,7 +16,7 @@ coordinator-goes-requires c κs = search needs
 
 -- src/step.rt:332:5
 returns : tie.Need-returns
-returns c = ?
+returns c = simp (c .coordinator-goes .ensures, c .before .start .ensures)
 
 pub start-spec : {M : Type 1} → statement M
 start-spec = tie.close (tie.spec start-requires coordinator-goes-requires returns)

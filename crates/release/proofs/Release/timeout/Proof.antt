@@ -1,3 +1,8 @@
+use Prim.Native.Nat.{ℕ}
+use Rattle.release.proofs.Places.{at-place}
+use Rattle.release.specs.Step.{step}
+use Rattle.release.specs.Types.{Step}
+use borrow.Author.Tests.{eq-eqb, ne-eqb}
 use borrow.Author.Needs.{needs}
 use Rattle.release.proofs.Release.timeout.Statement.{statement}
 use Rattle.release.proofs.Release.timeout.Tie as tie
@@ -35,11 +40,12 @@ participant-goes-requires c κs = search needs
 
 -- src/step.rt:373:5
 returns : tie.Need-returns
-returns c = ?
+returns c = simp (c .coordinator-goes .ensures, c .before .timeout .ensures, c .before .before .if1 .taken)
 
 -- src/step.rt:373:5
 returns-2 : tie.Need-returns-2
-returns-2 c = ?
+returns-2 c = simp
+    (at-place (λ (k : ℕ). step (c .before .before .before .before .args .self) (Step.Timeout k)) (c .before .before .before .before .args .p) (c .before .before .before .if1 .left), c .participant-goes .ensures, c .before .timeout2 .ensures, c .before .before .participant-of .ensures)
 
 pub timeout-spec : {M : Type 1} → statement M
 timeout-spec =
