@@ -17,6 +17,13 @@ and-right false b q = cc
 pub and-true : (a b : Bool) → a ≡ true → b ≡ true → a && b ≡ true
 and-true a b p q = rw p q
 
+pub and-false : (a b : Bool) → b ≡ false → a && b ≡ false
+and-false true b q = q
+and-false false b q = refl
+
+pub false-and : (a b : Bool) → a ≡ false → a && b ≡ false
+false-and a b q = rw q refl
+
 pub inverse : {A : Type 0} (number : A → ℕ) (of : ℕ → A) → ((x : A) → of (number x) ≡ x) → Inverse number of
 inverse number of back = record { decoded = back; encoded = λ k q. eqb-true (number (of k)) k q }
 

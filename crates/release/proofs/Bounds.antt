@@ -19,7 +19,7 @@ Bounds n (Timeout p) = p ≤ n
 Bounds n (Crash p) = p ≤ n
 Bounds n (Restart p) = p ≤ n
 
-between : (a k b : ℕ) → numberInRange a k b ≡ true → (a ≤ k) × (k ≤ b)
+pub between : (a k b : ℕ) → numberInRange a k b ≡ true → (a ≤ k) × (k ≤ b)
 between a k b q = (leb-true a k (and-left (leb a k) (leb k b) q), leb-true k b (and-right (leb a k) (leb k b) q))
 
 call-bounds : (n p k : ℕ) → leb p n && numberInRange 1 k n ≡ true → (p ≤ n) × (1 ≤ k) × (k ≤ n)

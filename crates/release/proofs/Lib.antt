@@ -1,6 +1,9 @@
 pub mod FirstRecords
 pub mod Places
+pub mod Tabulate
 pub mod Bounds
+pub mod TailRange
+pub mod SingleCases
 pub mod Causes
 pub mod Invariant
 pub mod Updates

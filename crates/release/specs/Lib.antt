@@ -6,3 +6,5 @@ pub mod Due
 pub mod Run
 pub mod Demand
 pub mod Range
+pub mod Tail
+pub mod Single

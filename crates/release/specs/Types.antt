@@ -21,3 +21,6 @@ pub use Rattle.schedule.specs.declared.Step.{Step}
 pub use Rattle.schedule.specs.declared.Step.the-variants.{Start, Deliver, Copy, Lose, Timeout, Crash, Restart}
 pub use Rattle.release.specs.declared.Outcome.{Outcome}
 pub use Rattle.release.specs.declared.Report.{Report}
+pub use Rattle.release.specs.declared.tail.ParticipantFields.{ParticipantFields}
+pub use Rattle.release.specs.declared.tail.Tail.{Tail}
+pub use Rattle.release.specs.declared.single.Stepped.{Stepped}

@@ -4,8 +4,10 @@ use party::participant::Participant;
 use store::LOGS;
 use store::Store;
 
+pub mod single;
 pub mod state;
 pub mod step;
+pub mod tail;
 
 // How many types of messages there are.
 pub const TYPES: usize = 5;

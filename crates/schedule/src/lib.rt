@@ -70,7 +70,7 @@ impl Kind {
 }
 
 // Whether a number is between two others.
-fn between(low: u32, k: u32, high: u32) -> bool
+pub fn between(low: u32, k: u32, high: u32) -> bool
     ensures { λ b. ⌜ b ≡ numberInRange low k high ⌝ }
 {
     if low <= k { k <= high } else { false }

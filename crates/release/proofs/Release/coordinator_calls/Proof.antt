@@ -29,11 +29,12 @@ coordinator-performed-requires c κs = search needs
 returns : tie.Need-returns
 unfolding coordinatorCalls
 returns c =
-    simp
-    (c .coordinator-performed .ensures,
-    c .before .perform .ensures,
-    c .before .before .pending .ensures,
-    c .before .before .before .log-of .ensures)
+    simp (
+      c .coordinator-performed .ensures,
+      c .before .perform .ensures,
+      c .before .before .pending .ensures,
+      c .before .before .before .log-of .ensures,
+    )
 
 pub coordinator-calls-spec : {M : Type 1} → statement M
 coordinator-calls-spec =

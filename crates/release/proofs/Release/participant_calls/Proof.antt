@@ -34,12 +34,13 @@ participant-performed-requires c κs = search needs
 returns : tie.Need-returns
 unfolding participantCalls
 returns c =
-    simp
-    (c .participant-performed .ensures,
-    c .before .perform .ensures,
-    c .before .before .log-of .ensures,
-    c .before .before .before .pending .ensures,
-    c .before .before .before .before .participant-of .ensures)
+    simp (
+      c .participant-performed .ensures,
+      c .before .perform .ensures,
+      c .before .before .log-of .ensures,
+      c .before .before .before .pending .ensures,
+      c .before .before .before .before .participant-of .ensures,
+    )
 
 pub participant-calls-spec : {M : Type 1} → statement M
 participant-calls-spec =

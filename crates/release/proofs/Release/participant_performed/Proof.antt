@@ -39,11 +39,12 @@ returns c = simp (c .idle .ensures, c .before .enum-told .given .1)
 -- src/step.rt:237:5
 returns-2 : tie.Need-returns-2
 returns-2 c =
-    simp
-    (c .participant-answered .ensures,
-    c .before .answer .ensures,
-    c .before .before .participant-of .ensures,
-    c .before .before .before .before .x .given .1)
+    simp (
+      c .participant-answered .ensures,
+      c .before .answer .ensures,
+      c .before .before .participant-of .ensures,
+      c .before .before .before .before .x .given .1,
+    )
 
 pub participant-performed-spec : {M : Type 1} → statement M
 participant-performed-spec =
