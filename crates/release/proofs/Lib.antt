@@ -21,3 +21,4 @@ pub mod Demand
 pub mod Reached
 pub mod Cut
 pub mod Counts
+pub mod Follows

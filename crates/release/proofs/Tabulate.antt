@@ -47,11 +47,14 @@ getD-tabulate zero f i d h = absurd (omega arith)
 getD-tabulate (suc k) f zero d h = refl
 getD-tabulate (suc k) f (suc i) d h = getD-tabulate k (λ j. f (suc j)) i d (omega arith)
 
--- a list is the table of its elements, and of whatever agrees with them
-pub tabulate-list : {A : Type 0} (f : ℕ → A) (l : List A) (d : A) → ((i : ℕ) → i < length l → f i ≡ getD l i d) → tabulate (length l) f ≡ l
+-- a list is the table of whatever agrees with its elements
+table-of : {A : Type 0} (f : ℕ → A) (l : List A) (d : A) → ((i : ℕ) → i < length l → f i ≡ getD l i d) → tabulate (length l) f ≡ l
 unfolding tabulate
-tabulate-list f [] d h = refl
-tabulate-list {A} f (x ∷ l) d h = ap₂ (λ (y : A) (r : List A). y ∷ r) (h 0 (omega arith)) (tabulate-list (λ i. f (suc i)) l d (λ i g. h (suc i) (omega arith)))
+table-of f [] d h = refl
+table-of {A} f (x ∷ l) d h = ap₂ (λ (y : A) (r : List A). y ∷ r) (h 0 (omega arith)) (table-of (λ i. f (suc i)) l d (λ i g. h (suc i) (omega arith)))
+
+pub tabulate-list : {A : Type 0} (k : ℕ) (f : ℕ → A) (l : List A) (d : A) → length l ≡ k → ((i : ℕ) → i < k → f i ≡ getD l i d) → tabulate k f ≡ l
+tabulate-list k f l d q h = rw (← q) (table-of f l d (λ i g. h i (omega arith)))
 
 -- a test of one place more, of all, and one that fails
 

@@ -1,12 +1,18 @@
 -- The single step: a whole release's state, with the fields of the tail, and one step by its kind and the two numbers of its body. Assumes nothing.
-use mathlib.Core.Bool.{cond, _&&_}
-use Prim.Native.Nat.{ℕ}
+use mathlib.Core.Path.{_≡_}
+use mathlib.Core.Bool.{true, cond, _&&_}
+use mathlib.Core.List.{List}
+use Prim.Native.Nat.{ℕ, _≤_}
 use Rattle.number.specs.Refusal.{accepted, outOfRange, notDue}
-use Rattle.schedule.specs.Step.{stepOf, numbersInRange}
+use Rattle.mask.specs.Mask.{within}
+use Rattle.store.specs.Log.{places}
+use Rattle.schedule.specs.Step.{stepNumber, firstNumber, secondNumber, stepOf, inRange, numbersInRange}
+use Rattle.release.specs.State.{fresh}
 use Rattle.release.specs.Report.{outcomeNumber, moves}
 use Rattle.release.specs.Step.{step}
+use Rattle.release.specs.Run.{after, AllInRange, Countable}
 use Rattle.release.specs.Tail.{tailOf, releaseOf, tailInRange}
-use Rattle.release.specs.Types.{Tail, Report, Stepped}
+use Rattle.release.specs.Types.{Tail, Step, Report, Stepped}
 
 -- a refusal hands the state back as given
 abbrev pub refused : ℕ → Tail → Stepped
@@ -19,3 +25,11 @@ handed t r = cond (moves (r .outcome)) (record { number = accepted; state = tail
 -- Order: 5, 7
 abbrev pub singleStep : Tail → ℕ → ℕ → ℕ → Stepped
 singleStep t kind a b = cond (tailInRange t && numbersInRange (t .n) kind a b) (handed t (step (releaseOf t) (stepOf kind a b))) (refused outOfRange t)
+
+-- From every release that a run reaches, with counts in range, the single step is the step of the rules. Proved in proofs/Follows.antt
+abbrev pub SingleStepFollows : Type 0
+SingleStepFollows =
+    (n votes : ℕ) → 1 ≤ n → n ≤ places → within n votes ≡ true → (steps : List Step) → AllInRange n steps → (s : Step) → inRange n s ≡ true
+    → Countable (after (fresh places n votes) steps .calls)
+    → singleStep (tailOf (after (fresh places n votes) steps)) (stepNumber s) (firstNumber s) (secondNumber s)
+    ≡ handed (tailOf (after (fresh places n votes) steps)) (step (after (fresh places n votes) steps) s)

@@ -1,9 +1,10 @@
 -- The fields of the tail: a release as document 01's numbers, and back. What the tail of that n couldn't hold is out of range. Assumes nothing.
+use mathlib.Core.Path.{_≡_}
 use mathlib.Core.Bool.{Bool, true, cond, _&&_}
 use mathlib.Core.List.{List, [], _∷_}
 use Prim.Native.Nat.{ℕ, zero, suc}
 use lib.Dec.{eqb, leb, ltb}
-use lib.ListN.{getD}
+use lib.ListN.{length, getD}
 use Rattle.mask.specs.Mask.{within}
 use Rattle.store.specs.Log.{recordNumber, recordOf, isRecord, isAllowed, places}
 use Rattle.party.specs.Participant
@@ -103,3 +104,8 @@ callsInRange t = every (λ p. countInRange (t .n) p (getD (t .calls) p 0)) (suc 
 
 abbrev pub tailInRange : Tail → Bool
 tailInRange t = numberInRange 1 (t .n) places && (masksInRange t && (partiesInRange t && callsInRange t))
+
+-- The way back and the numbers belong together: decode after encode is the identity, encode after decode on what is in range
+pub record TailNumbers : Type 0 where
+  pub decoded : (r : Release) → length (r .sites) ≡ places → length (r .store .logs) ≡ places → releaseOf (tailOf r) ≡ r
+  pub encoded : (t : Tail) → length (t .participants) ≡ places → tailInRange t ≡ true → tailOf (releaseOf t) ≡ t
