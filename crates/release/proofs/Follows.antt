@@ -3,7 +3,7 @@
 use mathlib.Core.Path.{_≡_, refl, sym, ap, ap₂, _∙_}
 use mathlib.Core.Bool.{Bool, true, false, cond, _&&_}
 use mathlib.Core.List.{List}
-use Prim.Native.Nat.{ℕ, _≤_, _<_}
+use Prim.Native.Nat.{ℕ, zero, suc, _≤_, _<_}
 use native.Mathlib.Omega.{arith}
 use native.Mathlib.Decide.{decLt}
 use lib.Dec.{eqb, leb, ltb}
@@ -16,17 +16,21 @@ use Rattle.store.proofs.Numbers.{record-numbers}
 use Rattle.party.specs.Participant
 use Rattle.party.specs.Coordinator
 use Rattle.party.proofs.Numbers.{participant-numbers, coordinator-numbers}
-use Rattle.schedule.specs.Step.{stepNumber, firstNumber, secondNumber, stepOf, isStep, inRange}
+use Rattle.schedule.specs.Step.{stepNumber, firstNumber, secondNumber, stepOf, isStep, inRange, numbersInRange}
 use Rattle.schedule.proofs.Numbers.{step-numbers}
 use Rattle.release.specs.State.{participantOf, logOf, firstOf, lastOf, maskOf, waiting, fresh}
 use Rattle.release.specs.Step.{step}
 use Rattle.release.specs.Run.{after, AllInRange, Countable}
 use Rattle.release.specs.Range.{ReleaseInRange}
 use Rattle.release.specs.Tail.{tabulate, every, fieldsOf, tailOf, siteOf, pairOf, fieldsAt, releaseOf, recordsInRange, fieldsZero, participantInRange, participantsInRange, partiesInRange, messagesInRange, masksInRange, countInRange, callsInRange, tailInRange, TailNumbers}
-use Rattle.release.specs.Single.{handed, SingleStepFollows}
-use Rattle.release.specs.Types.{LogPair, Message, Site, Release, Step, Tail, ParticipantFields}
+use Rattle.release.specs.Single.{handed, singleStep, SingleStepFollows}
+use Rattle.release.specs.Types.{LogPair, Message, Participant, Coordinator, Site, Release, Step, Tail, ParticipantFields}
 use Rattle.release.proofs.Tabulate.{getD-tabulate, tabulate-list, every-at, every-all}
+use Rattle.release.proofs.Agreement.{Later, later, fresh-inv}
+use Rattle.release.proofs.Reached.{reached-in-range}
+use Rattle.release.proofs.Room.{SameRoom, after-room}
 use Rattle.release.proofs.TailRange.{parties-in-range}
+use Rattle.release.proofs.SingleCases.{single-taken}
 
 -- from numbers to a release and back to them
 
@@ -95,3 +99,81 @@ release-decoded r l k =
 
 pub tail-numbers : TailNumbers
 tail-numbers = record { decoded = release-decoded; encoded = tail-encoded }
+
+-- the tail of a release in range is in range
+
+message-tested : (r : Release) → ReleaseInRange r → (k : ℕ) → k < 5 → within (r .n) (getD (r .messages) k 0) ≡ true
+message-tested r g zero h = g .messages Message.Request
+message-tested r g (suc zero) h = g .messages Message.ReplyYes
+message-tested r g (suc (suc zero)) h = g .messages Message.ReplyAbort
+message-tested r g (suc (suc (suc zero))) h = g .messages Message.Commit
+message-tested r g (suc (suc (suc (suc zero)))) h = g .messages Message.Abort
+message-tested r g (suc (suc (suc (suc (suc k))))) h = absurd (omega arith)
+
+records-tested : (l : LogPair) → isAllowed l ≡ true
+    → isRecord (recordNumber (l .first))
+    && (isRecord (recordNumber (l .last)) && isAllowed (record { first = recordOf (recordNumber (l .first)); last = recordOf (recordNumber (l .last)) }))
+    ≡ true
+records-tested l q =
+    and-true _ _ (is-number recordNumber recordOf record-numbers (l .first))
+    (and-true _ _ (is-number recordNumber recordOf record-numbers (l .last))
+    (rw (record-numbers .decoded (l .first), record-numbers .decoded (l .last)) q))
+
+numbers-tested : (n i : ℕ) (p : Participant) → Participant.inRange n i p ≡ true → Participant.numbersInRange n i (Participant.stateNumber p) (Participant.heardOf p) ≡ true
+numbers-tested n i p q =
+    and-true _ _ (are-numbers Participant.stateNumber Participant.heardOf Participant.participantOf participant-numbers p)
+    (rw (participant-numbers .decoded p) q)
+
+coordinator-numbers-tested : (n : ℕ) (c : Coordinator) → Coordinator.inRange n c ≡ true → Coordinator.numbersInRange n (Coordinator.stateNumber c) (Coordinator.heardOf c) ≡ true
+coordinator-numbers-tested n c q =
+    and-true _ _ (are-numbers Coordinator.stateNumber Coordinator.heardOf Coordinator.coordinatorOf coordinator-numbers c)
+    (rw (coordinator-numbers .decoded c) q)
+
+fields-tested : (r : Release) → ReleaseInRange r → (i : ℕ) (b : Bool) → ltb i (r .n) ≡ b → participantInRange (r .n) i (fieldsOf r i) ≡ true
+fields-tested r g i true e =
+    rw e
+    (and-true _ _ (numbers-tested (r .n) i (participantOf r i) (g .participants i (ltb-true i (r .n) e))) (records-tested (logOf r i) (g .logs i (ltb-true i (r .n) e))))
+fields-tested r g i false e =
+    rw e
+    (ap₂ (λ (p : Participant) (l : LogPair). fieldsZero (fields-from (record { participant = p }) l)) (g .participants-beyond i (ltb-false i (r .n) e))
+    (g .logs-beyond i (ltb-false i (r .n) e)))
+
+count-tested : (r : Release) → ReleaseInRange r → Countable (r .calls) → (p : ℕ) (b : Bool) → leb p (r .n) ≡ b → countInRange (r .n) p (getD (r .calls) p 0) ≡ true
+count-tested r g k p true e = rw e (lt-ltb (getD (r .calls) p 0) 65535 (k p))
+count-tested r g k p false e = rw (e, g .calls-beyond p (leb-false p (r .n) e)) refl
+
+pub tail-in-range : (r : Release) → r .n ≤ places → ReleaseInRange r → Countable (r .calls) → tailInRange (tailOf r) ≡ true
+tail-in-range r h g k =
+    and-true _ _ (and-true _ _ (le-leb 1 (r .n) (g .positive)) (le-leb (r .n) places h))
+    (and-true _ _ (and-true _ _ (g .votes) (every-all _ 5 (message-tested r g)))
+    (and-true _ _ (and-true _ _ (coordinator-numbers-tested (r .n) (r .coordinator) (g .coordinator)) (every-all _ places at))
+    (every-all _ 9 (λ p l. count-tested r g k p (leb p (r .n)) refl))))
+  where
+    at : (i : ℕ) → i < places → participantInRange (r .n) i (fieldsAt (tailOf r) i) ≡ true
+    at i l = ap (participantInRange (r .n) i) (getD-tabulate places (fieldsOf r) i _ l) ∙ fields-tested r g i (ltb i (r .n)) refl
+
+-- and the single step follows the run
+
+single-follows : (r : Release) → r .n ≤ places → length (r .sites) ≡ places → length (r .store .logs) ≡ places → ReleaseInRange r → Countable (r .calls)
+    → (s : Step) → inRange (r .n) s ≡ true → singleStep (tailOf r) (stepNumber s) (firstNumber s) (secondNumber s) ≡ handed (tailOf r) (step r s)
+single-follows r h l m g k s q =
+    sym (single-taken (tailOf r) (stepNumber s) (firstNumber s) (secondNumber s) (tail-in-range r h g k) taken)
+    ∙ ap₂ (λ (x : Release) (y : Step). handed (tailOf r) (step x y)) (release-decoded r l m) (step-numbers .decoded s)
+  where
+    taken : numbersInRange (r .n) (stepNumber s) (firstNumber s) (secondNumber s) ≡ true
+    taken =
+        and-true _ _ (are-numbers3 stepNumber firstNumber secondNumber stepOf step-numbers s) (ap (inRange (r .n)) (step-numbers .decoded s) ∙ q)
+
+pub single-step-follows : SingleStepFollows
+single-step-follows n votes pos fits w steps h s q k =
+    single-follows r (rw (c .same-n) fits) (room .sites ∙ length-replicate places waiting) (room .logs ∙ length-replicate places empty)
+    (reached-in-range places n votes pos fits w steps h) k s (rw (c .same-n) q)
+  where
+    r : Release
+    r = after (fresh places n votes) steps
+
+    c : Later (fresh places n votes) r
+    c = later (fresh places n votes) steps h (fresh-inv places n votes fits)
+
+    room : SameRoom (fresh places n votes) r
+    room = after-room (fresh places n votes) steps

@@ -21,4 +21,5 @@ pub mod Demand
 pub mod Reached
 pub mod Cut
 pub mod Counts
+pub mod Room
 pub mod Follows
