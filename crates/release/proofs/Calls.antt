@@ -11,6 +11,7 @@ use Rattle.mask.proofs.Laws.{has-insert-neither}
 use Rattle.store.specs.Log.{logOnce, perform}
 use Rattle.party.specs.Participant
 use Rattle.party.specs.Coordinator
+pub use Rattle.party.proofs.Ranges.{Guard}
 use Rattle.party.proofs.Cases.{cond-cases}
 use Rattle.release.specs.Types.{LogRecord, None, Yes, Abort, Commit, LogPair, Call, Performed, Participant, Waiting, VotingYes, Closing, Uncertain, Terminating, RecordingCommit, RecordingAbort, DoneCommit, DoneAbort, Down, Coordinator}
 use Rattle.release.proofs.FirstRecords.{Claim, nothing, voted-yes, every-yes, some-abort, Stated, keep-refl}
@@ -145,19 +146,6 @@ module _ (n : ℕ) (F : ℕ → LogRecord) (p : Participant) where
   perform-fits j (Call.Log r) l h a k = log-fits j r (l .first) (l .last) h a
 
 -- the calls that the rules make
-
--- which log participant i calls in its state
-abbrev pub Guard : ℕ → Participant → ℕ → Type 0
-Guard i Waiting j = ⊥
-Guard i VotingYes j = j ≡ i
-Guard i Closing j = j ≡ i
-Guard i Uncertain j = ⊥
-Guard i (Terminating h) j = has j (insert i h) ≡ false
-Guard i RecordingCommit j = j ≡ i
-Guard i RecordingAbort j = j ≡ i
-Guard i DoneCommit j = ⊥
-Guard i DoneAbort j = ⊥
-Guard i Down j = ⊥
 
 -- a pending call of participant i, in state p, on log j of participant P j
 abbrev pub Pends : ℕ → (ℕ → LogRecord) → (ℕ → Participant) → ℕ → Participant → ℕ → Call → Type 0

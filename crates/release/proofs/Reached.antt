@@ -15,6 +15,7 @@ use Rattle.mask.proofs.Laws.{lt-within, within-lt, insert-lt, remove-le, full-l
 use Rattle.store.specs.Log.{allowed, empty}
 use Rattle.party.specs.Participant
 use Rattle.party.specs.Coordinator
+use Rattle.party.proofs.Ranges.{ParticipantInRange, CoordinatorHeardInRange, CoordinatorInRange, ToInRange, CoordinatorToInRange, participant-tested, coordinator-tested, request-range, decision-range, timeout-range, answer-range, none-heard, replyYes-range, replyAbort-range, coordinator-answer-range}
 use Rattle.party.proofs.Cases.{cond-cases, answer-cases, request-cases, decision-cases, timeout-cases, crash-cases, restart-cases, start-cases, replyYes-cases, replyAbort-cases, coordinator-timeout-cases, coordinator-answer-cases, coordinator-crash-cases, coordinator-restart-cases, enters-cases}
 use Rattle.release.specs.State.{participantOf, participantAt, logOf, logAt, firstOf, lastOf, maskAt, maskOf, waiting, fresh}
 use Rattle.release.specs.Step.{called, send, sendAll, drop, withMask, withParticipant, participantTo, withCoordinator, coordinatorTo, coordinatorGoes, receive, step}
@@ -29,38 +30,6 @@ use Rattle.release.proofs.Bounds.{Bounds, bounds}
 use Rattle.release.proofs.Causes.{Cause, idles, starts, delivers, copies, loses, answered, lost, coordinator-answered, coordinator-lost, times-out, crashes, restarts, coordinator-times-out, coordinator-crashes, coordinator-restarts, cause}
 use Rattle.release.proofs.Safety.{call-guard, step-good}
 use Rattle.release.proofs.Agreement.{replicate-all, fresh-inv, fresh-mask, after-append, range-left, range-right, Later, later}
-
--- the ranges as propositions
-
-pub record HeardInRange (n i h : ℕ) : Type 0 where
-  pub below : h < 2 ^ n
-  pub others : has i h ≡ false
-  pub part : insert i h ≢ full n
-
-abbrev pub ParticipantInRange : ℕ → ℕ → Participant → Type 0
-ParticipantInRange n i Waiting = Unit {0}
-ParticipantInRange n i VotingYes = Unit {0}
-ParticipantInRange n i Closing = Unit {0}
-ParticipantInRange n i Uncertain = Unit {0}
-ParticipantInRange n i (Terminating h) = HeardInRange n i h
-ParticipantInRange n i RecordingCommit = Unit {0}
-ParticipantInRange n i RecordingAbort = Unit {0}
-ParticipantInRange n i DoneCommit = Unit {0}
-ParticipantInRange n i DoneAbort = Unit {0}
-ParticipantInRange n i Down = Unit {0}
-
-pub record CoordinatorHeardInRange (n h : ℕ) : Type 0 where
-  pub below : h < 2 ^ n
-  pub part : h ≢ full n
-
-abbrev pub CoordinatorInRange : ℕ → Coordinator → Type 0
-CoordinatorInRange n Coordinator.Idle = Unit {0}
-CoordinatorInRange n (Coordinator.Waiting h) = CoordinatorHeardInRange n h
-CoordinatorInRange n (Coordinator.Terminating h) = CoordinatorHeardInRange n h
-CoordinatorInRange n Coordinator.Commit = Unit {0}
-CoordinatorInRange n Coordinator.Abort = Unit {0}
-CoordinatorInRange n Coordinator.Down = Unit {0}
-CoordinatorInRange n Coordinator.Retired = Unit {0}
 
 -- the ranges that a step keeps, over the parts that they read. Pairs allowed follow from the invariant
 pub record Ranges (n votes : ℕ) (c : Coordinator) (messages : List ℕ) (sites : List Site) (logs : List LogPair) (calls : List ℕ) : Type 0 where
@@ -146,92 +115,6 @@ called-ranged r p j l hp hj b =
       calls-beyond = set-all (λ (k x : ℕ). r .n < k → x ≡ 0) (r .calls) p (getD (r .calls) p 0 + 1) 0 (b .calls-beyond) (λ g. absurd (omega arith));
     }
 
--- the rules
-
-abbrev ToInRange : ℕ → ℕ → Transition → Type 0
-ToInRange n i NotDue = Unit {0}
-ToInRange n i (To p s) = ParticipantInRange n i p
-
-abbrev CoordinatorToInRange : ℕ → CoordinatorTransition → Type 0
-CoordinatorToInRange n CoordinatorTransition.NotDue = Unit {0}
-CoordinatorToInRange n (CoordinatorTransition.To c s) = CoordinatorInRange n c
-
-module _ (n i : ℕ) (lt : i < n) where
-  terminating-range : (h : ℕ) → h < 2 ^ n → has i h ≡ false → ParticipantInRange n i (Participant.terminating n i h)
-  terminating-range h b o =
-      cond-cases (ParticipantInRange n i) (eqb (insert i h) (full n)) RecordingCommit (Terminating h) (λ t. tt)
-      (λ t. record { below = b; others = o; part = eqb-false (insert i h) (full n) t })
-
-  unheard-range : ParticipantInRange n i (Participant.terminating n i 0)
-  unheard-range = terminating-range 0 (pow-pos n) (has-zero i)
-
-  request-range : (vote : Bool) (p : Participant) → ParticipantInRange n i p → ParticipantInRange n i (Participant.onRequest vote p)
-  request-range vote p =
-      request-cases (λ p p′. ParticipantInRange n i p → ParticipantInRange n i p′) vote
-      (λ k. cond-cases (ParticipantInRange n i) vote VotingYes Closing (λ t. tt) (λ t. tt)) (λ p k. k) p
-
-  recording-range : (d : Decision) → ParticipantInRange n i (Participant.recording d)
-  recording-range Decision.Commit = tt
-  recording-range Decision.Abort = tt
-
-  decision-range : (d : Decision) (p : Participant) → ParticipantInRange n i p → ParticipantInRange n i (Participant.onDecision d p)
-  decision-range d p = decision-cases (λ p p′. ParticipantInRange n i p → ParticipantInRange n i p′) d (λ k. recording-range d) (λ p k. k) p
-
-  timeout-range : (p : Participant) → ParticipantInRange n i p → ToInRange n i (Participant.onTimeout n i p)
-  timeout-range p =
-      timeout-cases (λ p t. ParticipantInRange n i p → ToInRange n i t) n i (λ k. tt) (λ k. unheard-range)
-      (λ h k. record { below = pow-pos n; others = has-zero i; part = λ q. k .part (full-more n i h lt (k .below) q) }) (λ p k. tt) p
-
-  answer-range : (p : Participant) (j : ℕ) (a : LogRecord) → j < n → Guard i p j → ParticipantInRange n i p → ToInRange n i (Participant.onAnswer n i p j a)
-  answer-range p j a l =
-      answer-cases n i j (λ p a t. Guard i p j → ParticipantInRange n i p → ToInRange n i t)
-      (record {
-        none = λ p a g k. tt;
-        vote-yes = λ g k. tt;
-        vote-abort = λ g k. tt;
-        close-yes = λ g k. unheard-range;
-        close-abort = λ g k. tt;
-        close-commit = λ g k. tt;
-        hear-yes = λ h g k.
-            terminating-range (insert j h) (insert-lt n j h l (k .below)) (has-insert-other j i h (λ q. not-inserted i j h g (sym q)) ∙ k .others);
-        hear-abort = λ h g k. tt;
-        hear-commit = λ h g k. tt;
-        record-commit = λ g k. tt;
-        record-abort = λ g k. tt;
-      })
-      p a
-
-module _ (n : ℕ) where
-  none-heard : 1 ≤ n → CoordinatorHeardInRange n 0
-  none-heard h = record { below = pow-pos n; part = λ q. true-false (has-full 0 n h) (rw (sym q) (has-zero 0)) }
-
-  enters-range : (c : Coordinator) → CoordinatorInRange n c → CoordinatorToInRange n (Coordinator.enters c)
-  enters-range c k = enters-cases (CoordinatorToInRange n) c k (λ q. tt) (λ q. tt)
-
-  full-range : (h : ℕ) (c : Coordinator) → h < 2 ^ n → (CoordinatorHeardInRange n h → CoordinatorInRange n c) → CoordinatorInRange n (Coordinator.unlessFull n h c)
-  full-range h c b f =
-      cond-cases (CoordinatorInRange n) (eqb h (full n)) Coordinator.Commit c (λ t. tt) (λ t. f (record { below = b; part = eqb-false h (full n) t }))
-
-  replyYes-range : (i : ℕ) → i < n → (c : Coordinator) → CoordinatorInRange n c → CoordinatorToInRange n (Coordinator.onReplyYes n i c)
-  replyYes-range i l c =
-      replyYes-cases (λ c t. CoordinatorInRange n c → CoordinatorToInRange n t) n i
-      (λ h k. enters-range (Coordinator.unlessFull n (insert i h) (Coordinator.Waiting (insert i h)))
-      (full-range (insert i h) (Coordinator.Waiting (insert i h)) (insert-lt n i h l (k .below)) (λ x. x))) (λ c k. k) c
-
-  replyAbort-range : (c : Coordinator) → CoordinatorInRange n c → CoordinatorToInRange n (Coordinator.onReplyAbort c)
-  replyAbort-range c = replyAbort-cases (λ c t. CoordinatorInRange n c → CoordinatorToInRange n t) (λ h k. tt) (λ c k. k) c
-
-  heard-range : (h : ℕ) (a : LogRecord) → h < 2 ^ n → CoordinatorToInRange n (Coordinator.onHeard n h a)
-  heard-range h None b = tt
-  heard-range h Yes b = enters-range (Coordinator.unlessFull n h (Coordinator.Terminating h)) (full-range h (Coordinator.Terminating h) b (λ x. x))
-  heard-range h Abort b = tt
-  heard-range h Commit b = tt
-
-  coordinator-answer-range : (c : Coordinator) (j : ℕ) (a : LogRecord) → j < n → CoordinatorInRange n c → CoordinatorToInRange n (Coordinator.onAnswer n c j a)
-  coordinator-answer-range c j a l =
-      coordinator-answer-cases (λ c t. CoordinatorInRange n c → CoordinatorToInRange n t) n j a (λ c k. tt)
-      (λ h k. heard-range (insert j h) a (insert-lt n j h l (k .below))) c
-
 -- the steps
 
 goes-ranged : (r : Release) (t : CoordinatorTransition) → Ranged r → CoordinatorToInRange (r .n) t → Ranged (coordinatorGoes t r .next)
@@ -296,33 +179,6 @@ pair-allowed n F Abort Yes a = absurd a
 pair-allowed n F Abort Abort a = refl
 pair-allowed n F Abort Commit a = absurd a
 pair-allowed n F Commit last a = absurd a
-
--- the propositions give the tests
-
-participant-tested : (n i : ℕ) (p : Participant) → ParticipantInRange n i p → Participant.inRange n i p ≡ true
-participant-tested n i Waiting h = refl
-participant-tested n i VotingYes h = refl
-participant-tested n i Closing h = refl
-participant-tested n i Uncertain h = refl
-participant-tested n i (Terminating x) h =
-    and-true _ _ (lt-within n x (h .below)) (and-true _ _ (ap not (h .others)) (ap not (ne-eqb (insert i x) (full n) (h .part))))
-participant-tested n i RecordingCommit h = refl
-participant-tested n i RecordingAbort h = refl
-participant-tested n i DoneCommit h = refl
-participant-tested n i DoneAbort h = refl
-participant-tested n i Down h = refl
-
-coordinator-heard-tested : (n h : ℕ) → CoordinatorHeardInRange n h → Coordinator.heardInRange n h ≡ true
-coordinator-heard-tested n x h = and-true _ _ (lt-within n x (h .below)) (ap not (ne-eqb x (full n) (h .part)))
-
-coordinator-tested : (n : ℕ) (c : Coordinator) → CoordinatorInRange n c → Coordinator.inRange n c ≡ true
-coordinator-tested n Coordinator.Idle h = refl
-coordinator-tested n (Coordinator.Waiting x) h = coordinator-heard-tested n x h
-coordinator-tested n (Coordinator.Terminating x) h = coordinator-heard-tested n x h
-coordinator-tested n Coordinator.Commit h = refl
-coordinator-tested n Coordinator.Abort h = refl
-coordinator-tested n Coordinator.Down h = refl
-coordinator-tested n Coordinator.Retired h = refl
 
 pub in-range : (r : Release) → Inv r → Ranged r → ReleaseInRange r
 in-range r v b =

@@ -1,0 +1,62 @@
+-- The host entry: one step of one participant, on numbers. Assumes nothing.
+use mathlib.Core.Bool.{Bool, cond, _&&_}
+use mathlib.Core.List.{List, [], _∷_}
+use Prim.Native.Nat.{ℕ, _-_}
+use lib.Dec.{ltb}
+use lib.ListN.{length}
+use lib.Seq.{sets}
+use Rattle.number.specs.Refusal.{accepted, outOfRange, tooShort, notDue}
+use Rattle.store.specs.Log.{places}
+use Rattle.party.specs.Message.{sentNumber}
+use Rattle.party.specs.Participant
+use Rattle.schedule.specs.Step.{numberInRange}
+use Rattle.host.specs.Types.{LogRecord, Call, Sent, Participant, Transition, NotDue, To, Event}
+use Rattle.host.specs.Event.{eventOf, numbersInRange}
+
+-- An answer counts only where its call is pending
+abbrev pub answers : Call → Transition → Transition
+answers Call.None t = NotDue
+answers (Call.LogOnce r) t = t
+answers (Call.Log r) t = t
+
+-- Events 1 and 2 are always due. `own` and `j` are places
+abbrev pub answered : ℕ → ℕ → Participant → ℕ → LogRecord → Transition
+answered n own p j r = answers (Participant.pending own p j) (Participant.onAnswer n own p j r)
+
+abbrev pub onEvent : ℕ → ℕ → Participant → Event → Transition
+onEvent n own p (Event.Request vote) = Participant.to (Participant.onRequest vote p)
+onEvent n own p (Event.Decided d) = Participant.to (Participant.onDecision d p)
+onEvent n own p Event.Timeout = Participant.onTimeout n own p
+onEvent n own p Event.Crash = Participant.onCrash p
+onEvent n own p Event.Restart = Participant.onRestart p
+onEvent n own p (Event.Answer log r) = answered n own p (log - 1) r
+
+-- n, own number, state, heard mask, event, detail, record: each in range
+abbrev pub hostInRange : ℕ → ℕ → ℕ → ℕ → ℕ → ℕ → ℕ → Bool
+hostInRange n own s h e d r =
+    numberInRange 1 n places && (numberInRange 1 own n && (Participant.numbersInRange n (own - 1) s h && numbersInRange n e d r))
+
+abbrev pub hostTransition : ℕ → ℕ → ℕ → ℕ → ℕ → ℕ → ℕ → Transition
+hostTransition n own s h e d r = onEvent n (own - 1) (Participant.participantOf s h) (eventOf e d r)
+
+-- Three bytes come back: state, heard mask, message type sent or 0
+abbrev pub bytesOf : Participant → Sent → List ℕ
+bytesOf p m = Participant.stateNumber p ∷ Participant.heardOf p ∷ sentNumber m ∷ []
+
+-- the number that a transition returns with a buffer of this length, and what it leaves in the buffer
+
+abbrev pub returned : ℕ → Transition → ℕ
+returned room NotDue = notDue
+returned room (To p m) = cond (ltb room 3) tooShort accepted
+
+abbrev pub left : List ℕ → Transition → List ℕ
+left out NotDue = out
+left out (To p m) = cond (ltb (length out) 3) out (sets out 0 (bytesOf p m))
+
+-- Host: 5, 7, then 6 for the host's buffer
+abbrev pub hostReturns : ℕ → ℕ → ℕ → ℕ → ℕ → ℕ → ℕ → ℕ → ℕ
+hostReturns room n own s h e d r = cond (hostInRange n own s h e d r) (returned room (hostTransition n own s h e d r)) outOfRange
+
+-- Lent bytes are untouched by any refusal, and by success beyond what it writes
+abbrev pub hostLeaves : List ℕ → ℕ → ℕ → ℕ → ℕ → ℕ → ℕ → ℕ → List ℕ
+hostLeaves out n own s h e d r = cond (hostInRange n own s h e d r) (left out (hostTransition n own s h e d r)) out

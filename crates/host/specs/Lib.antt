@@ -1,0 +1,4 @@
+pub mod Types
+pub mod Event
+pub mod Host
+pub mod Agrees

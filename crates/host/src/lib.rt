@@ -1,0 +1,233 @@
+// The host's entry: one participant, stepped from C on document 01's numbers. `own` is a participant's number; `place` is that less one.
+use number::NOT_DUE;
+use number::OUT_OF_RANGE;
+use number::TOO_SHORT;
+use party::Decision;
+use party::Sent;
+use party::participant::Participant;
+use party::participant::Transition;
+use schedule::between;
+use store::Call;
+use store::LOGS;
+use store::LogRecord;
+ghost use mathlib.Core.Path.{_≡_};
+ghost use mathlib.Core.Bool.{true};
+ghost use Prim.Native.Nat.{_-_, _≤_, _<_};
+ghost use lib.ListN.{length};
+ghost use Rattle.party.specs.Participant.{to, inRange};
+ghost use Rattle.host.specs.Event.{voteOf, decisionOf, eventNumber, detailNumber, answerNumber, eventOf, isEvent, isWritten, eventInRange, numbersInRange};
+ghost use Rattle.host.specs.Host.{answers, answered, onEvent, hostInRange, returned, left, hostReturns, hostLeaves};
+
+// What happens to a participant: a vote request with its own vote, a decision, or an answer of a log by its number, and so on.
+pub enum Event {
+    Request(bool),
+    Decided(Decision),
+    Timeout,
+    Crash,
+    Restart,
+    Answer(u32, LogRecord),
+}
+
+fn decision_of(k: u32) -> Decision
+    ensures { λ d. ⌜ d ≡ decisionOf k ⌝ }
+{
+    match k {
+        2 => Decision::Abort,
+        _ => Decision::Commit,
+    }
+}
+
+fn decision_number(d: Decision) -> u32
+    ensures { λ k. ⌜ k ≡ decisionNumber d ⌝ }
+{
+    match d {
+        Decision::Commit => 3,
+        Decision::Abort => 2,
+    }
+}
+
+fn vote_number(vote: bool) -> u32
+    ensures { λ k. ⌜ k ≡ voteNumber vote ⌝ }
+{
+    if vote { 1 } else { 0 }
+}
+
+fn is_written(r: LogRecord) -> bool
+    ensures { λ b. ⌜ b ≡ isWritten r ⌝ }
+{
+    match r {
+        LogRecord::None => false,
+        LogRecord::Yes => true,
+        LogRecord::Abort => true,
+        LogRecord::Commit => true,
+    }
+}
+
+impl Event {
+    // Its number, its detail and its record.
+    fn number(self) -> u32
+        ensures { λ k. ⌜ k ≡ eventNumber self ⌝ }
+    {
+        match self {
+            Event::Request(_) => 1,
+            Event::Decided(_) => 2,
+            Event::Timeout => 3,
+            Event::Crash => 4,
+            Event::Restart => 5,
+            Event::Answer(_, _) => 6,
+        }
+    }
+
+    fn detail(self) -> u32
+        ensures { λ k. ⌜ k ≡ detailNumber self ⌝ }
+    {
+        match self {
+            Event::Request(vote) => vote_number(vote),
+            Event::Decided(d) => decision_number(d),
+            Event::Timeout => 0,
+            Event::Crash => 0,
+            Event::Restart => 0,
+            Event::Answer(log, _) => log,
+        }
+    }
+
+    fn answer(self) -> u32
+        ensures { λ k. ⌜ k ≡ answerNumber self ⌝ }
+    {
+        match self {
+            Event::Request(_) => 0,
+            Event::Decided(_) => 0,
+            Event::Timeout => 0,
+            Event::Crash => 0,
+            Event::Restart => 0,
+            Event::Answer(_, r) => r.number(),
+        }
+    }
+
+    // The event with these numbers; where there is none, a request.
+    fn of(event: u32, detail: u32, answer: u32) -> Event
+        ensures { λ e. ⌜ e ≡ eventOf event detail answer ⌝ }
+    {
+        match event {
+            2 => Event::Decided(decision_of(detail)),
+            3 => Event::Timeout,
+            4 => Event::Crash,
+            5 => Event::Restart,
+            6 => Event::Answer(detail, LogRecord::of(answer)),
+            _ => Event::Request(detail == 1),
+        }
+    }
+
+    // Whether these are the numbers of an event.
+    fn known(event: u32, detail: u32, answer: u32) -> bool
+        ensures { λ b. ⌜ b ≡ isEvent event detail answer ⌝ }
+    {
+        let e = Event::of(event, detail, answer);
+        if e.number() == event {
+            if e.detail() == detail {
+                e.answer() == answer
+            } else {
+                false
+            }
+        } else {
+            false
+        }
+    }
+
+    // Whether an event among n can have its log and its record.
+    fn in_range(self, n: u32) -> bool
+        ensures { λ b. ⌜ b ≡ eventInRange n self ⌝ }
+    {
+        match self {
+            Event::Request(_) => true,
+            Event::Decided(_) => true,
+            Event::Timeout => true,
+            Event::Crash => true,
+            Event::Restart => true,
+            Event::Answer(log, r) => if between(1, log, n) {
+                is_written(r)
+            } else {
+                false
+            },
+        }
+    }
+
+    fn numbers_in_range(n: u32, event: u32, detail: u32, answer: u32) -> bool
+        ensures { λ b. ⌜ b ≡ numbersInRange n event detail answer ⌝ }
+    {
+        if Event::known(event, detail, answer) {
+            Event::of(event, detail, answer).in_range(n)
+        } else {
+            false
+        }
+    }
+}
+
+// An answer counts only where its call is pending.
+fn answers(c: Call, t: Transition) -> Transition
+    ensures { λ x. ⌜ x ≡ answers c t ⌝ }
+{
+    match c {
+        Call::None => Transition::NotDue,
+        Call::LogOnce(_) => t,
+        Call::Log(_) => t,
+    }
+}
+
+fn answered(n: u32, place: u32, p: Participant, j: u32, r: LogRecord) -> Transition
+    requires { ⌜ (n ≤ 32) × (place < 32) × (j < 32) ⌝ }
+    ensures { λ t. ⌜ t ≡ answered n place p j r ⌝ }
+{
+    answers(p.pending(place, j), p.answer(n, place, j, r))
+}
+
+fn to(p: Participant) -> Transition
+    ensures { λ t. ⌜ t ≡ to p ⌝ }
+{
+    Transition::To(p, Sent::Nothing)
+}
+
+// What an event leads a participant to.
+fn on_event(n: u32, place: u32, p: Participant, e: Event) -> Transition
+    requires { ⌜ (n ≤ 32) × (place < 32) × (eventInRange n e ≡ true) ⌝ }
+    ensures { λ t. ⌜ t ≡ onEvent n place p e ⌝ }
+{
+    match e {
+        Event::Request(vote) => to(p.request(vote)),
+        Event::Decided(d) => to(p.decision(d)),
+        Event::Timeout => p.timeout(n, place),
+        Event::Crash => p.crash(),
+        Event::Restart => p.restart(),
+        Event::Answer(log, r) => answered(n, place, p, log - 1, r),
+    }
+}
+
+// The number to return, and the three bytes where that is 0.
+fn hand_over(t: Transition, out: &mut [u8]) -> u32
+    requires { ⌜ byteHeard t ≡ true ⌝ }
+    ensures { λ k. ⌜ (k ≡ returned (length (now (out .entry))) t) × (now (out .exit) ≡ left (now (out .entry)) t) ⌝ }
+{
+    match t {
+        Transition::NotDue => NOT_DUE,
+        Transition::To(p, s) => {
+            if out.len() < 3 {
+                return TOO_SHORT;
+            }
+            out[0] = p.number() as u8;
+            out[1] = p.heard() as u8;
+            out[2] = s.number() as u8;
+            0
+        }
+    }
+}
+
+// Whether n and the own number are in range.
+fn numbers_in_range(n: u32, own: u32) -> bool
+    ensures { λ b. ⌜ b ≡ numberInRange 1 n places && numberInRange 1 own n ⌝ }
+{
+    if between(1, n, LOGS as u32) {
+        between(1, own, n)
+    } else {
+        false
+    }
+}
