@@ -22,7 +22,7 @@ abbrev pub voteNumber : Bool → ℕ
 voteNumber vote = cond vote 1 0
 
 abbrev pub voteOf : ℕ → Bool
-voteOf k = numbered voteNumber false (true ∷ []) k
+voteOf k = eqb k (voteNumber true)
 
 -- decision (detail 2 abort, 3 commit): the number of its log record
 abbrev pub decisionRecord : Decision → LogRecord

@@ -1,7 +1,7 @@
 -- The host entry: one step of one participant, on numbers. Assumes nothing.
 use mathlib.Core.Bool.{Bool, cond, _&&_}
 use mathlib.Core.List.{List, [], _∷_}
-use Prim.Native.Nat.{ℕ, _-_}
+use Prim.Native.Nat.{ℕ, _-_, _<_}
 use lib.Dec.{ltb}
 use lib.ListN.{length}
 use lib.Seq.{sets}
@@ -42,6 +42,11 @@ hostTransition n own s h e d r = onEvent n (own - 1) (Participant.participantOf 
 -- Three bytes come back: state, heard mask, message type sent or 0
 abbrev pub bytesOf : Participant → Sent → List ℕ
 bytesOf p m = Participant.stateNumber p ∷ Participant.heardOf p ∷ sentNumber m ∷ []
+
+-- its heard mask fits a byte
+abbrev pub HeardFits : Transition → Type 0
+HeardFits NotDue = Unit {0}
+HeardFits (To p m) = Participant.heardOf p < 256
 
 -- the number that a transition returns with a buffer of this length, and what it leaves in the buffer
 

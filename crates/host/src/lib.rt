@@ -14,9 +14,9 @@ ghost use mathlib.Core.Path.{_≡_};
 ghost use mathlib.Core.Bool.{true};
 ghost use Prim.Native.Nat.{_-_, _≤_, _<_};
 ghost use lib.ListN.{length};
-ghost use Rattle.party.specs.Participant.{to, inRange};
-ghost use Rattle.host.specs.Event.{voteOf, decisionOf, eventNumber, detailNumber, answerNumber, eventOf, isEvent, isWritten, eventInRange, numbersInRange};
-ghost use Rattle.host.specs.Host.{answers, answered, onEvent, hostInRange, returned, left, hostReturns, hostLeaves};
+ghost use Rattle.party.specs.Participant.{to};
+ghost use Rattle.host.specs.Event.{voteNumber, decisionNumber, decisionOf, eventNumber, detailNumber, answerNumber, eventOf, isEvent, isWritten, eventInRange, numbersInRange};
+ghost use Rattle.host.specs.Host.{answers, answered, onEvent, hostInRange, HeardFits, returned, left, hostReturns, hostLeaves};
 
 // What happens to a participant: a vote request with its own vote, a decision, or an answer of a log by its number, and so on.
 pub enum Event {
@@ -204,7 +204,7 @@ fn on_event(n: u32, place: u32, p: Participant, e: Event) -> Transition
 
 // The number to return, and the three bytes where that is 0.
 fn hand_over(t: Transition, out: &mut [u8]) -> u32
-    requires { ⌜ byteHeard t ≡ true ⌝ }
+    requires { ⌜ HeardFits t ⌝ }
     ensures { λ k. ⌜ (k ≡ returned (length (now (out .entry))) t) × (now (out .exit) ≡ left (now (out .entry)) t) ⌝ }
 {
     match t {
@@ -221,13 +221,44 @@ fn hand_over(t: Transition, out: &mut [u8]) -> u32
     }
 }
 
-// Whether n and the own number are in range.
-fn numbers_in_range(n: u32, own: u32) -> bool
-    ensures { λ b. ⌜ b ≡ numberInRange 1 n places && numberInRange 1 own n ⌝ }
+// Whether the seven numbers are in range.
+fn in_range(n: u32, own: u32, state: u32, heard: u32, event: u32, detail: u32, answer: u32) -> bool
+    ensures { λ b. ⌜ b ≡ hostInRange n own state heard event detail answer ⌝ }
 {
     if between(1, n, LOGS as u32) {
-        between(1, own, n)
+        if between(1, own, n) {
+            if Participant::numbers_in_range(n, own - 1, state, heard) {
+                Event::numbers_in_range(n, event, detail, answer)
+            } else {
+                false
+            }
+        } else {
+            false
+        }
     } else {
         false
+    }
+}
+
+// What include/cornus.h declares. `answer` is the record that a log answers with.
+#[no_mangle]
+pub extern "C" fn cornus_participant_step(
+    n: u32,
+    own: u32,
+    state: u32,
+    heard: u32,
+    event: u32,
+    detail: u32,
+    answer: u32,
+    out: &mut [u8],
+) -> u32
+    ensures { λ k. ⌜ (k ≡ hostReturns (length (now (out .entry))) n own state heard event detail answer) × (now (out .exit) ≡ hostLeaves (now (out .entry)) n own state heard event detail answer) ⌝ }
+{
+    if in_range(n, own, state, heard, event, detail, answer) {
+        let p = Participant::of(state, heard);
+        let e = Event::of(event, detail, answer);
+        hand_over(on_event(n, own - 1, p, e), out)
+    } else {
+        OUT_OF_RANGE
     }
 }

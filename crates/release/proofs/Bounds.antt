@@ -6,6 +6,7 @@ use lib.Dec.{leb}
 use borrow.Author.Tests.{leb-true}
 use Rattle.number.proofs.Laws.{and-left, and-right}
 use Rattle.schedule.specs.Step.{numberInRange, inRange}
+use Rattle.schedule.proofs.Numbers.{between}
 use Rattle.release.specs.Types.{Step, Start, Deliver, Copy, Lose, Timeout, Crash, Restart}
 
 abbrev pub Bounds : ℕ → Step → Type 0
@@ -18,9 +19,6 @@ Bounds n (Step.CallLost p q) = (p ≤ n) × (1 ≤ q) × (q ≤ n)
 Bounds n (Timeout p) = p ≤ n
 Bounds n (Crash p) = p ≤ n
 Bounds n (Restart p) = p ≤ n
-
-pub between : (a k b : ℕ) → numberInRange a k b ≡ true → (a ≤ k) × (k ≤ b)
-between a k b q = (leb-true a k (and-left (leb a k) (leb k b) q), leb-true k b (and-right (leb a k) (leb k b) q))
 
 call-bounds : (n p k : ℕ) → leb p n && numberInRange 1 k n ≡ true → (p ≤ n) × (1 ≤ k) × (k ≤ n)
 call-bounds n p k q =

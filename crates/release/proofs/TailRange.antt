@@ -13,7 +13,7 @@ use Rattle.schedule.specs.Step.{numberInRange}
 use Rattle.release.specs.Run.{Countable}
 use Rattle.release.specs.Tail.{every, masksInRange, partiesInRange, countInRange, callsInRange, tailInRange}
 use Rattle.release.specs.Types.{Tail}
-use Rattle.release.proofs.Bounds.{between}
+use Rattle.schedule.proofs.Numbers.{between}
 use Rattle.release.proofs.Tabulate.{every-at}
 
 pub n-in-range : (t : Tail) → tailInRange t ≡ true → (1 ≤ t .n) × (t .n ≤ places)

@@ -1,12 +1,16 @@
--- The numbers of kinds and steps and the ways back belong together, and what a step in range says of its numbers. Assumes nothing.
+-- The numbers of kinds and steps and the ways back belong together, and what a number in range is. Assumes nothing.
 use mathlib.Core.Path.{_≡_, refl}
+use mathlib.Core.Bool.{true}
+use Prim.Native.Nat.{ℕ, _≤_}
+use lib.Dec.{leb}
+use borrow.Author.Tests.{leb-true}
 use Rattle.number.specs.Numbering.{Inverse, Inverse3}
-use Rattle.number.proofs.Laws.{inverse, inverse3}
+use Rattle.number.proofs.Laws.{and-left, and-right, inverse, inverse3}
 use Rattle.party.specs.Message.{messageOf, typeNumber}
 use Rattle.party.proofs.Numbers.{message-numbers}
 use Rattle.schedule.specs.Types.{Kind, Step}
 use Rattle.schedule.specs.Kind.{kindNumber, kindOf}
-use Rattle.schedule.specs.Step.{stepNumber, firstNumber, secondNumber, stepOf}
+use Rattle.schedule.specs.Step.{stepNumber, firstNumber, secondNumber, stepOf, numberInRange}
 
 kind-back : (k : Kind) → kindOf (kindNumber k) ≡ k
 kind-back Kind.Header = refl
@@ -36,3 +40,6 @@ step-back (Step.Restart p) = refl
 
 pub step-numbers : Inverse3 stepNumber firstNumber secondNumber stepOf
 step-numbers = inverse3 stepNumber firstNumber secondNumber stepOf step-back
+
+pub between : (a k b : ℕ) → numberInRange a k b ≡ true → (a ≤ k) × (k ≤ b)
+between a k b q = (leb-true a k (and-left (leb a k) (leb k b) q), leb-true k b (and-right (leb a k) (leb k b) q))

@@ -36,13 +36,14 @@ number-requires-3 c κs = search needs
 -- src/tail.rt:269:5
 returns : tie.Need-returns
 returns c =
-    simp
-    (c .number3 .ensures,
-    c .before .number2 .ensures,
-    c .before .before .heard .ensures,
-    c .before .before .before .number .ensures,
-    c .before .before .before .before .log-of .ensures,
-    c .before .before .before .before .before .participant-of .ensures)
+    simp (
+      c .number3 .ensures,
+      c .before .number2 .ensures,
+      c .before .before .heard .ensures,
+      c .before .before .before .number .ensures,
+      c .before .before .before .before .log-of .ensures,
+      c .before .before .before .before .before .participant-of .ensures,
+    )
 
 pub fields-of-spec : {M : Type 1} → statement M
 fields-of-spec =

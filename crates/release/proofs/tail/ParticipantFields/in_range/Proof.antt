@@ -24,10 +24,11 @@ zero-requires c κs = search needs
 -- src/tail.rt:90:5
 returns : tie.Need-returns
 returns c =
-    simp
-    (c .records-in-range .ensures,
-    sym (c .before .before .numbers-in-range .ensures) ∙ c .before .if2 .taken,
-    lt-ltb _ _ (c .before .before .before .if1 .taken))
+    simp (
+      c .records-in-range .ensures,
+      sym (c .before .before .numbers-in-range .ensures) ∙ c .before .if2 .taken,
+      lt-ltb _ _ (c .before .before .before .if1 .taken),
+    )
 
 -- src/tail.rt:90:5
 returns-2 : tie.Need-returns-2

@@ -27,11 +27,12 @@ allowed-requires c κs = search needs
 -- src/tail.rt:57:5
 returns : tie.Need-returns
 returns c =
-    simp
-    (c .allowed .ensures,
-    c .before .pair .ensures,
-    sym (c .before .before .before .known2 .ensures) ∙ c .before .before .if2 .taken,
-    sym (c .before .before .before .before .before .known .ensures) ∙ c .before .before .before .before .if1 .taken)
+    simp (
+      c .allowed .ensures,
+      c .before .pair .ensures,
+      sym (c .before .before .before .known2 .ensures) ∙ c .before .before .if2 .taken,
+      sym (c .before .before .before .before .before .known .ensures) ∙ c .before .before .before .before .if1 .taken,
+    )
 
 -- src/tail.rt:57:5
 returns-2 : tie.Need-returns-2

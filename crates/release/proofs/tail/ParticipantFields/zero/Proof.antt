@@ -7,10 +7,11 @@ use Rattle.release.proofs.tail.ParticipantFields.zero.Lts as lts
 -- src/tail.rt:71:5
 returns : tie.Need-returns
 returns c =
-    simp
-    (eq-eqb _ _ (c .before .if3 .taken),
-    eq-eqb _ _ (c .before .before .before .if2 .taken),
-    eq-eqb _ _ (c .before .before .before .before .before .if1 .taken))
+    simp (
+      eq-eqb _ _ (c .before .if3 .taken),
+      eq-eqb _ _ (c .before .before .before .if2 .taken),
+      eq-eqb _ _ (c .before .before .before .before .before .if1 .taken),
+    )
 
 -- src/tail.rt:71:5
 returns-2 : tie.Need-returns-2

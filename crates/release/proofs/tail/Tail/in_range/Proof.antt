@@ -1,4 +1,4 @@
-use Rattle.release.proofs.Bounds.{between}
+use Rattle.schedule.proofs.Numbers.{between}
 use native.Mathlib.Omega.{arith}
 use mathlib.Core.Path.{sym, _∙_}
 use borrow.Author.Needs.{needs}
@@ -34,26 +34,29 @@ calls-in-range-requires c κs = search needs
 -- src/tail.rt:248:5
 returns : tie.Need-returns
 returns c =
-    simp
-    (c .calls-in-range .ensures,
-    sym (c .before .before .parties-in-range .ensures) ∙ c .before .if3 .taken,
-    sym (c .before .before .before .before .masks-in-range .ensures) ∙ c .before .before .before .if2 .taken,
-    sym (c .before .before .before .before .before .before .between .ensures) ∙ c .before .before .before .before .before .if1 .taken)
+    simp (
+      c .calls-in-range .ensures,
+      sym (c .before .before .parties-in-range .ensures) ∙ c .before .if3 .taken,
+      sym (c .before .before .before .before .masks-in-range .ensures) ∙ c .before .before .before .if2 .taken,
+      sym (c .before .before .before .before .before .before .between .ensures) ∙ c .before .before .before .before .before .if1 .taken,
+    )
 
 -- src/tail.rt:248:5
 returns-2 : tie.Need-returns-2
 returns-2 c =
-    simp
-    (sym (c .before .parties-in-range .ensures) ∙ c .if3 .left,
-    sym (c .before .before .before .masks-in-range .ensures) ∙ c .before .before .if2 .taken,
-    sym (c .before .before .before .before .before .between .ensures) ∙ c .before .before .before .before .if1 .taken)
+    simp (
+      sym (c .before .parties-in-range .ensures) ∙ c .if3 .left,
+      sym (c .before .before .before .masks-in-range .ensures) ∙ c .before .before .if2 .taken,
+      sym (c .before .before .before .before .before .between .ensures) ∙ c .before .before .before .before .if1 .taken,
+    )
 
 -- src/tail.rt:248:5
 returns-3 : tie.Need-returns-3
 returns-3 c =
-    simp
-    (sym (c .before .masks-in-range .ensures) ∙ c .if2 .left,
-    sym (c .before .before .before .between .ensures) ∙ c .before .before .if1 .taken)
+    simp (
+      sym (c .before .masks-in-range .ensures) ∙ c .if2 .left,
+      sym (c .before .before .before .between .ensures) ∙ c .before .before .if1 .taken,
+    )
 
 -- src/tail.rt:248:5
 returns-4 : tie.Need-returns-4

@@ -1,0 +1,101 @@
+-- What numbers in range give the host's step: places that a mask has, and a next state whose numbers fit bytes. Assumes nothing.
+use mathlib.Core.Path.{_≡_, refl}
+use mathlib.Core.Bool.{Bool, true, _&&_}
+use Prim.Native.Nat.{ℕ, _-_, _^_, _≤_, _<_}
+use native.Mathlib.Omega.{arith}
+use lib.Pow.{pow-mono}
+use Rattle.number.proofs.Laws.{and-left, and-right}
+use Rattle.store.specs.Log.{places}
+use Rattle.party.specs.Message.{typeNumber, sentNumber}
+use Rattle.party.specs.Participant
+use Rattle.party.proofs.Cases.{crash-cases, restart-cases}
+use Rattle.party.proofs.Ranges.{ParticipantInRange, participant-held, Guard, Guarded, pending-guarded, ToInRange, request-range, decision-range, timeout-range, answer-range}
+use Rattle.schedule.specs.Step.{numberInRange}
+use Rattle.schedule.proofs.Numbers.{between}
+use Rattle.host.specs.Types.{LogRecord, Call, Message, Sent, Participant, Transition, NotDue, To, Event}
+use Rattle.host.specs.Event.{eventOf, isEvent, isWritten, eventInRange, numbersInRange}
+use Rattle.host.specs.Host.{answers, onEvent, hostInRange, hostTransition, HeardFits}
+
+-- numbers that fit a byte
+
+pub state-small : (p : Participant) → Participant.stateNumber p < 256
+state-small Participant.Waiting = omega arith
+state-small Participant.VotingYes = omega arith
+state-small Participant.Closing = omega arith
+state-small Participant.Uncertain = omega arith
+state-small (Participant.Terminating h) = omega arith
+state-small Participant.RecordingCommit = omega arith
+state-small Participant.RecordingAbort = omega arith
+state-small Participant.DoneCommit = omega arith
+state-small Participant.DoneAbort = omega arith
+state-small Participant.Down = omega arith
+
+pub sent-small : (s : Sent) → sentNumber s < 256
+sent-small Sent.Nothing = omega arith
+sent-small (Sent.Sends Message.Request) = omega arith
+sent-small (Sent.Sends Message.ReplyYes) = omega arith
+sent-small (Sent.Sends Message.ReplyAbort) = omega arith
+sent-small (Sent.Sends Message.Commit) = omega arith
+sent-small (Sent.Sends Message.Abort) = omega arith
+
+-- the facts of numbers in range
+
+pub record Given (n own s h e d r : ℕ) : Type 0 where
+  pub size : n ≤ places
+  pub first : 1 ≤ own
+  pub last : own ≤ n
+  pub participant : Participant.inRange n (own - 1) (Participant.participantOf s h) ≡ true
+  pub event : eventInRange n (eventOf e d r) ≡ true
+
+pub given : (n own s h e d r : ℕ) → hostInRange n own s h e d r ≡ true → Given n own s h e d r
+given n own s h e d r q =
+    let a = and-right (numberInRange 1 n places) _ q in
+    let b = and-right (numberInRange 1 own n) _ a in
+    let o = between 1 own n (and-left (numberInRange 1 own n) _ a) in
+    record {
+      size = between 1 n places (and-left (numberInRange 1 n places) _ q) .1;
+      first = o .0;
+      last = o .1;
+      participant = and-right (Participant.isParticipant s h) _ (and-left (Participant.numbersInRange n (own - 1) s h) _ b);
+      event = and-right (isEvent e d r) _ (and-right (Participant.numbersInRange n (own - 1) s h) _ b);
+    }
+
+-- an event leads to a heard mask in range
+
+answers-range : (n i : ℕ) (p : Participant) (j : ℕ) (t : Transition) (c : Call) → Guarded i p j c → (Guard i p j → ToInRange n i t) → ToInRange n i (answers c t)
+answers-range n i p j t Call.None g f = tt
+answers-range n i p j t (Call.LogOnce r) g f = f g
+answers-range n i p j t (Call.Log r) g f = f g
+
+event-range : (n i : ℕ) → i < n → (p : Participant) → ParticipantInRange n i p → (e : Event) → eventInRange n e ≡ true → ToInRange n i (onEvent n i p e)
+event-range n i l p k (Event.Request vote) q = request-range n i l vote p k
+event-range n i l p k (Event.Decided d) q = decision-range n i l d p k
+event-range n i l p k Event.Timeout q = timeout-range n i l p k
+event-range n i l p k Event.Crash q = crash-cases (ToInRange n i) tt tt p
+event-range n i l p k Event.Restart q = restart-cases (λ p t. ToInRange n i t) tt (λ p. tt) p
+event-range n i l p k (Event.Answer log r) q =
+    let b = between 1 log n (and-left (numberInRange 1 log n) (isWritten r) q) in
+    answers-range n i p (log - 1) (Participant.onAnswer n i p (log - 1) r) (Participant.pending i p (log - 1)) (pending-guarded i p (log - 1))
+    (λ g. answer-range n i l p (log - 1) r (omega (arith, b .0, b .1)) g k)
+
+heard-below : (n i : ℕ) (p : Participant) → n ≤ places → ParticipantInRange n i p → Participant.heardOf p < 256
+heard-below n i Participant.Waiting l k = omega arith
+heard-below n i Participant.VotingYes l k = omega arith
+heard-below n i Participant.Closing l k = omega arith
+heard-below n i Participant.Uncertain l k = omega arith
+heard-below n i (Participant.Terminating h) l k = omega (arith, k .below, pow-mono {i = n} {j = places} l)
+heard-below n i Participant.RecordingCommit l k = omega arith
+heard-below n i Participant.RecordingAbort l k = omega arith
+heard-below n i Participant.DoneCommit l k = omega arith
+heard-below n i Participant.DoneAbort l k = omega arith
+heard-below n i Participant.Down l k = omega arith
+
+fits-byte : (n i : ℕ) (t : Transition) → n ≤ places → ToInRange n i t → HeardFits t
+fits-byte n i NotDue l k = tt
+fits-byte n i (To p m) l k = heard-below n i p l k
+
+pub heard-fits : (n own s h e d r : ℕ) → hostInRange n own s h e d r ≡ true → HeardFits (hostTransition n own s h e d r)
+heard-fits n own s h e d r q =
+    let g = given n own s h e d r q in
+    fits-byte n (own - 1) (hostTransition n own s h e d r) (g .size)
+    (event-range n (own - 1) (omega (arith, g .first, g .last)) (Participant.participantOf s h) (participant-held n (own - 1) (Participant.participantOf s h) (g .participant)) (eventOf e d r) (g .event))
