@@ -40,6 +40,9 @@ abbrev pub hostTransition : ℕ → ℕ → ℕ → ℕ → ℕ → ℕ → ℕ 
 hostTransition n own s h e d r = onEvent n (own - 1) (Participant.participantOf s h) (eventOf e d r)
 
 -- Three bytes come back: state, heard mask, message type sent or 0
+abbrev pub byteCount : ℕ
+byteCount = 3
+
 abbrev pub bytesOf : Participant → Sent → List ℕ
 bytesOf p m = Participant.stateNumber p ∷ Participant.heardOf p ∷ sentNumber m ∷ []
 
@@ -52,11 +55,11 @@ HeardFits (To p m) = Participant.heardOf p < 256
 
 abbrev pub returned : ℕ → Transition → ℕ
 returned room NotDue = notDue
-returned room (To p m) = cond (ltb room 3) tooShort accepted
+returned room (To p m) = cond (ltb room byteCount) tooShort accepted
 
 abbrev pub left : List ℕ → Transition → List ℕ
 left out NotDue = out
-left out (To p m) = cond (ltb (length out) 3) out (sets out 0 (bytesOf p m))
+left out (To p m) = cond (ltb (length out) byteCount) out (sets out 0 (bytesOf p m))
 
 -- Host: 5, 7, then 6 for the host's buffer
 abbrev pub hostReturns : ℕ → ℕ → ℕ → ℕ → ℕ → ℕ → ℕ → ℕ → ℕ

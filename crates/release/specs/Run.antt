@@ -40,9 +40,12 @@ abbrev pub callsMade : ℕ → Release → List Step → ℕ
 callsMade p r [] = 0
 callsMade p r (s ∷ ss) = cond (isStoreCallOf p s && isDue r s) 1 0 + callsMade p (step r s .next) ss
 
--- a count of two bytes has room for one call more
+-- a count of two bytes; below this one it has room for one call more
+abbrev pub countLimit : ℕ
+countLimit = 65535
+
 abbrev pub Countable : List ℕ → Type 0
-Countable calls = (p : ℕ) → getD calls p 0 < 65535
+Countable calls = (p : ℕ) → getD calls p 0 < countLimit
 
 -- a release counts them: proved in proofs/Counts.antt
 abbrev pub CallsCounted : Type 0

@@ -32,6 +32,10 @@ firstOf r j = logOf r j .first
 abbrev pub lastOf : Release → ℕ → LogRecord
 lastOf r j = logOf r j .last
 
+-- five message masks, one for each type
+abbrev pub types : ℕ
+types = 5
+
 -- the mask of the messages of a type: type t stands at t - 1
 abbrev pub messagePlace : Message → ℕ
 messagePlace m = typeNumber m - 1
@@ -53,7 +57,7 @@ fresh places n votes =
       n = n;
       votes = votes;
       coordinator = Coordinator.Idle;
-      messages = replicate 5 0;
+      messages = replicate types 0;
       sites = replicate places waiting;
       store = record { logs = replicate places empty };
       calls = replicate (suc places) 0;

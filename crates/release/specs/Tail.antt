@@ -10,7 +10,8 @@ use Rattle.store.specs.Log.{recordNumber, recordOf, isRecord, isAllowed, places
 use Rattle.party.specs.Participant
 use Rattle.party.specs.Coordinator
 use Rattle.schedule.specs.Step.{numberInRange}
-use Rattle.release.specs.State.{participantOf, firstOf, lastOf}
+use Rattle.release.specs.State.{participantOf, firstOf, lastOf, types}
+use Rattle.release.specs.Run.{countLimit}
 use Rattle.release.specs.Types.{LogPair, Site, Release, ParticipantFields, Tail}
 
 -- f 0 to f (k - 1), and whether all of k places pass a test
@@ -73,7 +74,7 @@ releaseOf t =
 -- field by field, what the tail of that n could hold
 
 abbrev pub messagesInRange : Tail → Bool
-messagesInRange t = every (λ k. within (t .n) (getD (t .messages) k 0)) 5
+messagesInRange t = every (λ k. within (t .n) (getD (t .messages) k 0)) types
 
 abbrev pub masksInRange : Tail → Bool
 masksInRange t = within (t .n) (t .votes) && messagesInRange t
@@ -97,7 +98,7 @@ partiesInRange t = Coordinator.numbersInRange (t .n) (t .state) (t .heard) && pa
 
 -- a call count of 65,535 is out of range
 abbrev pub countInRange : ℕ → ℕ → ℕ → Bool
-countInRange n p k = cond (leb p n) (ltb k 65535) (eqb k 0)
+countInRange n p k = cond (leb p n) (ltb k countLimit) (eqb k 0)
 
 abbrev pub callsInRange : Tail → Bool
 callsInRange t = every (λ p. countInRange (t .n) p (getD (t .calls) p 0)) (suc places)

@@ -1,3 +1,4 @@
+-- `release::Release::coordinator_calls` meets its contract, case by case. Assumes nothing.
 use Rattle.release.specs.Step.{coordinatorCalls}
 use borrow.Author.Needs.{needs}
 use Rattle.release.proofs.Release.coordinator_calls.Statement.{statement}

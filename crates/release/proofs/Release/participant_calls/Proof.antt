@@ -1,3 +1,4 @@
+-- `release::Release::participant_calls` meets its contract, case by case. Assumes nothing.
 use Rattle.release.specs.Step.{participantCalls}
 use borrow.Author.Needs.{needs}
 use Rattle.release.proofs.Release.participant_calls.Statement.{statement}

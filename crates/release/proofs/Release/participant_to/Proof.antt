@@ -1,3 +1,4 @@
+-- `release::Release::participant_to` meets its contract, case by case. Assumes nothing.
 use Rattle.release.specs.Step.{participantTo}
 use borrow.Author.Needs.{needs}
 use Rattle.release.proofs.Release.participant_to.Statement.{statement}

@@ -1,3 +1,4 @@
+-- `release::tail::Tail::sites` meets its contract, case by case. Assumes nothing.
 use mathlib.Core.Path.{_≡_, refl, sym, ap, _∙_}
 use Prim.Native.Nat.{ℕ, _-_, _≤_, suc}
 use native.Mathlib.Omega.{arith}

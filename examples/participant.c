@@ -1,0 +1,58 @@
+/* A host that steps one participant: through a commit, and through a termination after a silent coordinator. */
+#include "cornus.h"
+
+#include <stdio.h>
+
+struct participant {
+    uint32_t n;
+    uint32_t own;
+    uint32_t state;
+    uint32_t heard;
+};
+
+/* Steps the participant, keeps its next state and prints what came of the event. */
+static void step(struct participant *p, const char *event_name, uint32_t event, uint32_t detail, uint32_t record)
+{
+    uint8_t out[CORNUS_STEP_BYTES];
+    uint32_t refusal = cornus_participant_step(p->n, p->own, p->state, p->heard, event, detail, record, out, sizeof out);
+
+    if (refusal != CORNUS_OK) {
+        printf("%s: refused %u\n", event_name, (unsigned)refusal);
+        return;
+    }
+    p->state = out[0];
+    p->heard = out[1];
+    printf("%s: state %u, heard %u, sends %u\n", event_name, out[0], out[1], out[2]);
+}
+
+static void commit(void)
+{
+    struct participant p = {.n = 2, .own = 1, .state = CORNUS_WAITING, .heard = 0};
+
+    printf("participant 1 of 2 commits\n");
+    step(&p, "request, its vote is yes", CORNUS_REQUEST, CORNUS_VOTE_YES, 0);
+    step(&p, "log 1 answers yes", CORNUS_ANSWER, 1, CORNUS_RECORD_YES);
+    step(&p, "decision commit", CORNUS_DECISION, CORNUS_RECORD_COMMIT, 0);
+    step(&p, "log 1 answers commit", CORNUS_ANSWER, 1, CORNUS_RECORD_COMMIT);
+}
+
+static void termination(void)
+{
+    struct participant p = {.n = 3, .own = 2, .state = CORNUS_WAITING, .heard = 0};
+
+    printf("participant 2 of 3 terminates\n");
+    step(&p, "request, its vote is yes", CORNUS_REQUEST, CORNUS_VOTE_YES, 0);
+    step(&p, "log 2 answers yes", CORNUS_ANSWER, 2, CORNUS_RECORD_YES);
+    step(&p, "timeout", CORNUS_TIMEOUT, 0, 0);
+    step(&p, "log 1 answers yes", CORNUS_ANSWER, 1, CORNUS_RECORD_YES);
+    step(&p, "log 1 answers again", CORNUS_ANSWER, 1, CORNUS_RECORD_YES);
+    step(&p, "log 3 answers yes", CORNUS_ANSWER, 3, CORNUS_RECORD_YES);
+    step(&p, "log 2 answers commit", CORNUS_ANSWER, 2, CORNUS_RECORD_COMMIT);
+}
+
+int main(void)
+{
+    commit();
+    termination();
+    return 0;
+}
