@@ -9,8 +9,8 @@ use Rattle.number.proofs.Laws.{and-true, are-numbers, are-numbers3}
 use Rattle.store.specs.Log.{log, perform, places}
 use Rattle.party.specs.Participant
 use Rattle.party.proofs.Numbers.{participant-numbers}
-use Rattle.release.specs.State.{participantOf, logOf}
-use Rattle.release.specs.Step.{participantGoes, participantAnswered, participantPerformed, participantCalls, step}
+use Rattle.rules.specs.State.{participantOf, logOf}
+use Rattle.rules.specs.Step.{participantGoes, participantAnswered, participantPerformed, participantCalls, step}
 use Rattle.host.specs.Types.{LogPair, Call, Logged, Performed, Participant, Transition, NotDue, To, Release, Step, Event}
 use Rattle.host.specs.Event.{eventNumber, detailNumber, answerNumber, eventOf, eventInRange}
 use Rattle.host.specs.Host.{answers, answered, onEvent, hostInRange, hostTransition, returned, left, hostReturns, hostLeaves}

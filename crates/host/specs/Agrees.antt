@@ -7,8 +7,8 @@ use Prim.Native.Nat.{ℕ, suc, _≤_, _<_}
 use Rattle.mask.specs.Mask.{has}
 use Rattle.store.specs.Log.{perform, places}
 use Rattle.party.specs.Participant
-use Rattle.release.specs.State.{participantOf, logOf, inFlight}
-use Rattle.release.specs.Step.{drop, participantGoes, participantAnswered, step}
+use Rattle.rules.specs.State.{participantOf, logOf, inFlight}
+use Rattle.rules.specs.Step.{drop, participantGoes, participantAnswered, step}
 use Rattle.host.specs.Types.{Logged, Performed, Message, Decision, Transition, Release, Step, Event}
 use Rattle.host.specs.Event.{eventNumber, detailNumber, answerNumber, eventInRange}
 use Rattle.host.specs.Host.{onEvent, returned, left, hostReturns, hostLeaves}

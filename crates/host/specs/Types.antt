@@ -11,5 +11,5 @@ pub use Rattle.party.specs.declared.participant.Participant.{Participant}
 pub use Rattle.party.specs.declared.participant.Transition.{Transition}
 pub use Rattle.party.specs.declared.participant.Transition.the-variants.{NotDue, To}
 pub use Rattle.schedule.specs.declared.Step.{Step}
-pub use Rattle.release.specs.declared.Release.{Release}
+pub use Rattle.rules.specs.declared.Release.{Release}
 pub use Rattle.host.specs.declared.Event.{Event}

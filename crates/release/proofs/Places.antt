@@ -3,10 +3,11 @@ use mathlib.Core.Path.{_≡_, refl, ap, ap₂}
 use mathlib.Core.Bool.{Bool, cond}
 use Prim.Native.Nat.{ℕ, zero, suc, _+_, _-_, _≤_, _<_}
 use native.Mathlib.Omega.{arith}
-use Rattle.release.specs.State.{messagePlace}
-use Rattle.release.specs.Step.{idle, moved, drop, receive, calls, participantCalls, coordinatorCalls, step}
-use Rattle.release.specs.Due.{messageDue}
-use Rattle.release.specs.Types.{Message, Release, Report, Step}
+use Rattle.rules.specs.State.{messagePlace}
+use Rattle.rules.specs.Step.{idle, moved, drop, receive, calls, participantCalls, coordinatorCalls, step}
+use Rattle.rules.specs.Due.{messageDue}
+use Rattle.rules.specs.Types.{Message, Step}
+use Rattle.rules.specs.declared.Release.{Release}
 
 pub place-below : (m : Message) → messagePlace m < 5
 place-below Message.Request = omega arith

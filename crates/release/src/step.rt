@@ -1,13 +1,20 @@
 // One step of a release: the rules of a party say what is due and what it leads to; here that is applied to the release. `i` and `j` are places,
 // which count from 0; `p` and `q` are the numbers of a party and of a log.
-use super::Outcome;
-use super::Release;
-use super::Report;
+use super::state::called;
+use super::state::log_of;
+use super::state::mask_of;
+use super::state::participant_of;
+use super::state::with_coordinator;
+use super::state::with_mask;
+use super::state::with_participant;
 use party::Decision;
 use party::Message;
 use party::Sent;
 use party::coordinator::Coordinator;
 use party::participant::Participant;
+use rules::Outcome;
+use rules::Release;
+use rules::Report;
 use schedule::Step;
 use store::Logged;
 use store::Performed;
@@ -17,22 +24,32 @@ ghost use Prim.Native.Nat.{suc, _+_, _≤_, _<_};
 ghost use lib.ListN.{getD};
 ghost use Rattle.schedule.specs.Step.{inRange};
 ghost use Rattle.schedule.specs.declared.Step.{Step};
-ghost use Rattle.release.specs.Report.{moves, known, coordinatorKnown, learnt};
-ghost use Rattle.release.specs.Step.{idle, moved, send, drop, sendAll, reply, participantTo, participantGoes, broadcast, coordinatorTo, coordinatorGoes, receive, participantAnswered, participantPerformed, participantCalls, coordinatorAnswered, coordinatorPerformed, coordinatorCalls, calls, step};
-ghost use Rattle.release.specs.Due.{messageDue};
-ghost use Rattle.release.specs.Run.{Countable};
+ghost use Rattle.rules.specs.Report.{outcomeNumber, moves, known, coordinatorKnown, learnt};
+ghost use Rattle.rules.specs.Step.{idle, moved, send, drop, sendAll, reply, participantTo, participantGoes, broadcast, coordinatorTo, coordinatorGoes, receive, participantAnswered, participantPerformed, participantCalls, coordinatorAnswered, coordinatorPerformed, coordinatorCalls, calls, step};
+ghost use Rattle.rules.specs.Due.{messageDue};
+ghost use Rattle.rules.specs.Run.{Countable};
 
-impl Outcome {
-    // Whether the step was due.
-    pub fn moves(self) -> bool
-        ensures { λ b. ⌜ b ≡ moves self ⌝ }
-    {
-        match self {
-            Outcome::Idle => false,
-            Outcome::Moved => true,
-            Outcome::Commit => true,
-            Outcome::Abort => true,
-        }
+// Whether the step was due.
+pub fn moves(o: Outcome) -> bool
+    ensures { λ b. ⌜ b ≡ moves o ⌝ }
+{
+    match o {
+        Outcome::Idle => false,
+        Outcome::Moved => true,
+        Outcome::Commit => true,
+        Outcome::Abort => true,
+    }
+}
+
+// The report byte.
+pub fn report_byte(o: Outcome) -> u8
+    ensures { λ k. ⌜ k ≡ outcomeNumber o ⌝ }
+{
+    match o {
+        Outcome::Idle => 0,
+        Outcome::Moved => 1,
+        Outcome::Commit => 2,
+        Outcome::Abort => 3,
     }
 }
 
@@ -81,349 +98,343 @@ fn learnt(old: Outcome, new: Outcome) -> Outcome
     }
 }
 
-impl Release {
-    fn idle(self) -> Report
-        ensures { λ r. ⌜ r ≡ idle self ⌝ }
-    {
-        Report {
-            outcome: Outcome::Idle,
-            next: self,
-        }
+fn idle(r: Release) -> Report
+    ensures { λ report. ⌜ report ≡ idle r ⌝ }
+{
+    Report {
+        outcome: Outcome::Idle,
+        next: r,
     }
+}
 
-    fn moved(self) -> Report
-        ensures { λ r. ⌜ r ≡ moved self ⌝ }
-    {
-        Report {
-            outcome: Outcome::Moved,
-            next: self,
-        }
+fn moved(r: Release) -> Report
+    ensures { λ report. ⌜ report ≡ moved r ⌝ }
+{
+    Report {
+        outcome: Outcome::Moved,
+        next: r,
     }
+}
 
-    // A message to or from participant i comes into flight, or out of it.
-    fn send(self, m: Message, i: u32) -> Release
-        requires { ⌜ i < 32 ⌝ }
-        ensures { λ r. ⌜ r ≡ send m i self ⌝ }
-    {
-        self.with_mask(m, mask::insert(self.mask_of(m), i))
+// A message to or from participant i comes into flight, or out of it.
+fn send(r: Release, m: Message, i: u32) -> Release
+    requires { ⌜ i < 32 ⌝ }
+    ensures { λ next. ⌜ next ≡ send m i r ⌝ }
+{
+    with_mask(r, m, mask::insert(mask_of(r, m), i))
+}
+
+fn drop(r: Release, m: Message, i: u32) -> Release
+    ensures { λ next. ⌜ next ≡ drop m i r ⌝ }
+{
+    with_mask(r, m, mask::remove(mask_of(r, m), i))
+}
+
+fn send_all(r: Release, m: Message) -> Release
+    requires { ⌜ r .n ≤ 32 ⌝ }
+    ensures { λ next. ⌜ next ≡ sendAll m r ⌝ }
+{
+    with_mask(r, m, mask::full(r.n))
+}
+
+fn reply(r: Release, s: Sent, i: u32) -> Release
+    requires { ⌜ i < 32 ⌝ }
+    ensures { λ next. ⌜ next ≡ reply s i r ⌝ }
+{
+    match s {
+        Sent::Nothing => r,
+        Sent::Sends(m) => send(r, m, i),
     }
+}
 
-    fn drop(self, m: Message, i: u32) -> Release
-        ensures { λ r. ⌜ r ≡ drop m i self ⌝ }
-    {
-        self.with_mask(m, mask::remove(self.mask_of(m), i))
+fn broadcast(r: Release, s: Sent) -> Release
+    requires { ⌜ r .n ≤ 32 ⌝ }
+    ensures { λ next. ⌜ next ≡ broadcast s r ⌝ }
+{
+    match s {
+        Sent::Nothing => r,
+        Sent::Sends(m) => send_all(r, m),
     }
+}
 
-    fn send_all(self, m: Message) -> Release
-        requires { ⌜ self .n ≤ 32 ⌝ }
-        ensures { λ r. ⌜ r ≡ sendAll m self ⌝ }
-    {
-        self.with_mask(m, mask::full(self.n))
+// Participant i goes to a state and sends its reply.
+fn participant_to(r: Release, i: u32, p: Participant, s: Sent) -> Report
+    requires { ⌜ i < 32 ⌝ }
+    ensures { λ report. ⌜ report ≡ participantTo i p s r ⌝ }
+{
+    let outcome = learnt(known(participant_of(r, i)), known(p));
+    let next = with_participant(reply(r, s, i), i, p);
+    Report {
+        outcome: outcome,
+        next: next,
     }
+}
 
-    fn reply(self, s: Sent, i: u32) -> Release
-        requires { ⌜ i < 32 ⌝ }
-        ensures { λ r. ⌜ r ≡ reply s i self ⌝ }
-    {
-        match s {
-            Sent::Nothing => self,
-            Sent::Sends(m) => self.send(m, i),
-        }
+fn participant_goes(r: Release, i: u32, t: party::participant::Transition) -> Report
+    requires { ⌜ i < 32 ⌝ }
+    ensures { λ report. ⌜ report ≡ participantGoes i t r ⌝ }
+{
+    match t {
+        party::participant::Transition::NotDue => idle(r),
+        party::participant::Transition::To(p, s) => participant_to(r, i, p, s),
     }
+}
 
-    fn broadcast(self, s: Sent) -> Release
-        requires { ⌜ self .n ≤ 32 ⌝ }
-        ensures { λ r. ⌜ r ≡ broadcast s self ⌝ }
-    {
-        match s {
-            Sent::Nothing => self,
-            Sent::Sends(m) => self.send_all(m),
-        }
+// The coordinator goes to a state and sends to all.
+fn coordinator_to(r: Release, c: Coordinator, s: Sent) -> Report
+    requires { ⌜ r .n ≤ 32 ⌝ }
+    ensures { λ report. ⌜ report ≡ coordinatorTo c s r ⌝ }
+{
+    let old = r.coordinator;
+    let outcome = learnt(coordinator_known(old), coordinator_known(c));
+    let next = with_coordinator(broadcast(r, s), c);
+    Report {
+        outcome: outcome,
+        next: next,
     }
+}
 
-    // Participant i goes to a state and sends its reply.
-    fn participant_to(self, i: u32, p: Participant, s: Sent) -> Report
-        requires { ⌜ i < 32 ⌝ }
-        ensures { λ r. ⌜ r ≡ participantTo i p s self ⌝ }
-    {
-        let outcome = learnt(known(self.participant_of(i)), known(p));
-        let next = self.reply(s, i).with_participant(i, p);
-        Report {
-            outcome: outcome,
-            next: next,
-        }
+fn coordinator_goes(r: Release, t: party::coordinator::Transition) -> Report
+    requires { ⌜ r .n ≤ 32 ⌝ }
+    ensures { λ report. ⌜ report ≡ coordinatorGoes t r ⌝ }
+{
+    match t {
+        party::coordinator::Transition::NotDue => idle(r),
+        party::coordinator::Transition::To(c, s) => coordinator_to(r, c, s),
     }
+}
 
-    fn participant_goes(self, i: u32, t: party::participant::Transition) -> Report
-        requires { ⌜ i < 32 ⌝ }
-        ensures { λ r. ⌜ r ≡ participantGoes i t self ⌝ }
-    {
-        match t {
-            party::participant::Transition::NotDue => self.idle(),
-            party::participant::Transition::To(p, s) => self.participant_to(i, p, s),
-        }
+// A message is delivered: requests and decisions to participant i, replies from it to the coordinator.
+fn receive(r: Release, m: Message, i: u32) -> Report
+    requires { ⌜ (r .n ≤ 32) × (i < 32) ⌝ }
+    ensures { λ report. ⌜ report ≡ receive m i r ⌝ }
+{
+    let c = r.coordinator;
+    let p = participant_of(r, i);
+    match m {
+        Message::Request => participant_to(r, i, p.request(mask::has(r.votes, i)), Sent::Nothing),
+        Message::ReplyYes => coordinator_goes(r, c.reply_yes(r.n, i)),
+        Message::ReplyAbort => coordinator_goes(r, c.reply_abort()),
+        Message::Commit => participant_to(r, i, p.decision(Decision::Commit), Sent::Nothing),
+        Message::Abort => participant_to(r, i, p.decision(Decision::Abort), Sent::Nothing),
     }
+}
 
-    // The coordinator goes to a state and sends to all.
-    fn coordinator_to(self, c: Coordinator, s: Sent) -> Report
-        requires { ⌜ self .n ≤ 32 ⌝ }
-        ensures { λ r. ⌜ r ≡ coordinatorTo c s self ⌝ }
-    {
-        let old = self.coordinator;
-        let outcome = learnt(coordinator_known(old), coordinator_known(c));
-        let next = self.broadcast(s).with_coordinator(c);
-        Report {
-            outcome: outcome,
-            next: next,
-        }
-    }
-
-    fn coordinator_goes(self, t: party::coordinator::Transition) -> Report
-        requires { ⌜ self .n ≤ 32 ⌝ }
-        ensures { λ r. ⌜ r ≡ coordinatorGoes t self ⌝ }
-    {
-        match t {
-            party::coordinator::Transition::NotDue => self.idle(),
-            party::coordinator::Transition::To(c, s) => self.coordinator_to(c, s),
-        }
-    }
-
-    // A message is delivered: requests and decisions to participant i, replies from it to the coordinator.
-    fn receive(self, m: Message, i: u32) -> Report
-        requires { ⌜ (self .n ≤ 32) × (i < 32) ⌝ }
-        ensures { λ r. ⌜ r ≡ receive m i self ⌝ }
-    {
-        let c = self.coordinator;
-        let p = self.participant_of(i);
-        match m {
-            Message::Request => self.participant_to(
-                i,
-                p.request(mask::has(self.votes, i)),
-                Sent::Nothing,
-            ),
-            Message::ReplyYes => self.coordinator_goes(c.reply_yes(self.n, i)),
-            Message::ReplyAbort => self.coordinator_goes(c.reply_abort()),
-            Message::Commit => self.participant_to(i, p.decision(Decision::Commit), Sent::Nothing),
-            Message::Abort => self.participant_to(i, p.decision(Decision::Abort), Sent::Nothing),
-        }
-    }
-
-    // What a performed call of participant i on log j leads to: the log changes, and where the answer is heard the participant does too.
-    fn participant_answered(
-        self,
-        heard: bool,
-        i: u32,
-        j: u32,
-        x: Logged,
-        t: party::participant::Transition,
-    ) -> Report
-        requires { ⌜ (i < 32) × (getD (self .calls) (i + 1) 0 < 65535) ⌝ }
-        ensures { λ r. ⌜ r ≡ participantAnswered heard i j x t self ⌝ }
-    {
-        match t {
-            party::participant::Transition::NotDue => self.idle(),
-            party::participant::Transition::To(p, s) => {
-                let log = x.log;
-                let next = self.called(i + 1, j, log);
-                if heard {
-                    next.participant_to(i, p, s)
-                } else {
-                    next.moved()
-                }
+// What a performed call of participant i on log j leads to: the log changes, and where the answer is heard the participant does too.
+fn participant_answered(
+    r: Release,
+    heard: bool,
+    i: u32,
+    j: u32,
+    x: Logged,
+    t: party::participant::Transition,
+) -> Report
+    requires { ⌜ (i < 32) × (getD (r .calls) (i + 1) 0 < 65535) ⌝ }
+    ensures { λ report. ⌜ report ≡ participantAnswered heard i j x t r ⌝ }
+{
+    match t {
+        party::participant::Transition::NotDue => idle(r),
+        party::participant::Transition::To(p, s) => {
+            let log = x.log;
+            let next = called(r, i + 1, j, log);
+            if heard {
+                participant_to(next, i, p, s)
+            } else {
+                moved(next)
             }
         }
     }
+}
 
-    fn participant_performed(self, heard: bool, i: u32, j: u32, x: Performed) -> Report
-        requires { ⌜ (self .n ≤ 32) × (i < 32) × (j < 32) × (getD (self .calls) (i + 1) 0 < 65535) ⌝ }
-        ensures { λ r. ⌜ r ≡ participantPerformed heard i j x self ⌝ }
-    {
-        match x {
-            Performed::Refused => self.idle(),
-            Performed::Done(l) => {
-                let answer = l.answer;
-                let t = self.participant_of(i).answer(self.n, i, j, answer);
-                self.participant_answered(heard, i, j, l, t)
+fn participant_performed(r: Release, heard: bool, i: u32, j: u32, x: Performed) -> Report
+    requires { ⌜ (r .n ≤ 32) × (i < 32) × (j < 32) × (getD (r .calls) (i + 1) 0 < 65535) ⌝ }
+    ensures { λ report. ⌜ report ≡ participantPerformed heard i j x r ⌝ }
+{
+    match x {
+        Performed::Refused => idle(r),
+        Performed::Done(l) => {
+            let answer = l.answer;
+            let t = participant_of(r, i).answer(r.n, i, j, answer);
+            participant_answered(r, heard, i, j, l, t)
+        }
+    }
+}
+
+fn participant_calls(r: Release, heard: bool, i: u32, j: u32) -> Report
+    requires { ⌜ (r .n ≤ 32) × (i < 32) × (j < 32) × (getD (r .calls) (i + 1) 0 < 65535) ⌝ }
+    ensures { λ report. ⌜ report ≡ participantCalls heard i j r ⌝ }
+{
+    let call = participant_of(r, i).pending(i, j);
+    participant_performed(r, heard, i, j, log_of(r, j).perform(call))
+}
+
+// The same for the coordinator.
+fn coordinator_answered(
+    r: Release,
+    heard: bool,
+    j: u32,
+    x: Logged,
+    t: party::coordinator::Transition,
+) -> Report
+    requires { ⌜ (r .n ≤ 32) × (getD (r .calls) 0 0 < 65535) ⌝ }
+    ensures { λ report. ⌜ report ≡ coordinatorAnswered heard j x t r ⌝ }
+{
+    match t {
+        party::coordinator::Transition::NotDue => idle(r),
+        party::coordinator::Transition::To(c, s) => {
+            let log = x.log;
+            let next = called(r, 0, j, log);
+            if heard {
+                coordinator_to(next, c, s)
+            } else {
+                moved(next)
             }
         }
     }
+}
 
-    fn participant_calls(self, heard: bool, i: u32, j: u32) -> Report
-        requires { ⌜ (self .n ≤ 32) × (i < 32) × (j < 32) × (getD (self .calls) (i + 1) 0 < 65535) ⌝ }
-        ensures { λ r. ⌜ r ≡ participantCalls heard i j self ⌝ }
-    {
-        let call = self.participant_of(i).pending(i, j);
-        self.participant_performed(heard, i, j, self.log_of(j).perform(call))
-    }
-
-    // The same for the coordinator.
-    fn coordinator_answered(
-        self,
-        heard: bool,
-        j: u32,
-        x: Logged,
-        t: party::coordinator::Transition,
-    ) -> Report
-        requires { ⌜ (self .n ≤ 32) × (getD (self .calls) 0 0 < 65535) ⌝ }
-        ensures { λ r. ⌜ r ≡ coordinatorAnswered heard j x t self ⌝ }
-    {
-        match t {
-            party::coordinator::Transition::NotDue => self.idle(),
-            party::coordinator::Transition::To(c, s) => {
-                let log = x.log;
-                let next = self.called(0, j, log);
-                if heard {
-                    next.coordinator_to(c, s)
-                } else {
-                    next.moved()
-                }
-            }
+fn coordinator_performed(r: Release, heard: bool, j: u32, x: Performed) -> Report
+    requires { ⌜ (r .n ≤ 32) × (j < 32) × (getD (r .calls) 0 0 < 65535) ⌝ }
+    ensures { λ report. ⌜ report ≡ coordinatorPerformed heard j x r ⌝ }
+{
+    match x {
+        Performed::Refused => idle(r),
+        Performed::Done(l) => {
+            let answer = l.answer;
+            let c = r.coordinator;
+            coordinator_answered(r, heard, j, l, c.answer(r.n, j, answer))
         }
     }
+}
 
-    fn coordinator_performed(self, heard: bool, j: u32, x: Performed) -> Report
-        requires { ⌜ (self .n ≤ 32) × (j < 32) × (getD (self .calls) 0 0 < 65535) ⌝ }
-        ensures { λ r. ⌜ r ≡ coordinatorPerformed heard j x self ⌝ }
-    {
-        match x {
-            Performed::Refused => self.idle(),
-            Performed::Done(l) => {
-                let answer = l.answer;
-                let c = self.coordinator;
-                self.coordinator_answered(heard, j, l, c.answer(self.n, j, answer))
-            }
-        }
+fn coordinator_calls(r: Release, heard: bool, j: u32) -> Report
+    requires { ⌜ (r .n ≤ 32) × (j < 32) × (getD (r .calls) 0 0 < 65535) ⌝ }
+    ensures { λ report. ⌜ report ≡ coordinatorCalls heard j r ⌝ }
+{
+    let c = r.coordinator;
+    coordinator_performed(r, heard, j, log_of(r, j).perform(c.pending(j)))
+}
+
+// A call of party p on log q.
+fn calls(r: Release, heard: bool, p: u32, q: u32) -> Report
+    requires { ⌜ (r .n ≤ 32) × (p ≤ 32) × (q ≤ 32) × Countable (r .calls) ⌝ }
+    ensures { λ report. ⌜ report ≡ calls heard p q r ⌝ }
+{
+    if q == 0 {
+        return idle(r);
     }
-
-    fn coordinator_calls(self, heard: bool, j: u32) -> Report
-        requires { ⌜ (self .n ≤ 32) × (j < 32) × (getD (self .calls) 0 0 < 65535) ⌝ }
-        ensures { λ r. ⌜ r ≡ coordinatorCalls heard j self ⌝ }
-    {
-        let c = self.coordinator;
-        self.coordinator_performed(heard, j, self.log_of(j).perform(c.pending(j)))
+    if p == 0 {
+        coordinator_calls(r, heard, q - 1)
+    } else {
+        participant_calls(r, heard, p - 1, q - 1)
     }
+}
 
-    // A call of party p on log q.
-    fn calls(self, heard: bool, p: u32, q: u32) -> Report
-        requires { ⌜ (self .n ≤ 32) × (p ≤ 32) × (q ≤ 32) × Countable (self .calls) ⌝ }
-        ensures { λ r. ⌜ r ≡ calls heard p q self ⌝ }
-    {
-        if q == 0 {
-            return self.idle();
-        }
-        if p == 0 {
-            self.coordinator_calls(heard, q - 1)
-        } else {
-            self.participant_calls(heard, p - 1, q - 1)
-        }
+// Whether a message of this type to or from participant p is in flight.
+fn in_flight(r: Release, m: Message, p: u32) -> bool
+    ensures { λ b. ⌜ b ≡ messageDue r m p ⌝ }
+{
+    if p == 0 {
+        false
+    } else {
+        mask::has(mask_of(r, m), p - 1)
     }
+}
 
-    // Whether a message of this type to or from participant p is in flight.
-    fn in_flight(self, m: Message, p: u32) -> bool
-        ensures { λ b. ⌜ b ≡ messageDue self m p ⌝ }
-    {
-        if p == 0 {
-            false
-        } else {
-            mask::has(self.mask_of(m), p - 1)
-        }
+fn start(r: Release) -> Report
+    requires { ⌜ r .n ≤ 32 ⌝ }
+    ensures { λ report. ⌜ report ≡ step r Step.Start ⌝ }
+{
+    let c = r.coordinator;
+    coordinator_goes(r, c.start())
+}
+
+fn deliver(r: Release, m: Message, p: u32) -> Report
+    requires { ⌜ (r .n ≤ 32) × (1 ≤ p) × (p ≤ 32) ⌝ }
+    ensures { λ report. ⌜ report ≡ step r (Step.Deliver m p) ⌝ }
+{
+    if in_flight(r, m, p) {
+        receive(drop(r, m, p - 1), m, p - 1)
+    } else {
+        idle(r)
     }
+}
 
-    fn start(self) -> Report
-        requires { ⌜ self .n ≤ 32 ⌝ }
-        ensures { λ r. ⌜ r ≡ step self Step.Start ⌝ }
-    {
-        let c = self.coordinator;
-        self.coordinator_goes(c.start())
+fn copy(r: Release, m: Message, p: u32) -> Report
+    requires { ⌜ (r .n ≤ 32) × (1 ≤ p) × (p ≤ 32) ⌝ }
+    ensures { λ report. ⌜ report ≡ step r (Step.Copy m p) ⌝ }
+{
+    if in_flight(r, m, p) {
+        receive(r, m, p - 1)
+    } else {
+        idle(r)
     }
+}
 
-    fn deliver(self, m: Message, p: u32) -> Report
-        requires { ⌜ (self .n ≤ 32) × (1 ≤ p) × (p ≤ 32) ⌝ }
-        ensures { λ r. ⌜ r ≡ step self (Step.Deliver m p) ⌝ }
-    {
-        if self.in_flight(m, p) {
-            self.drop(m, p - 1).receive(m, p - 1)
-        } else {
-            self.idle()
-        }
+fn lose(r: Release, m: Message, p: u32) -> Report
+    requires { ⌜ 1 ≤ p ⌝ }
+    ensures { λ report. ⌜ report ≡ step r (Step.Lose m p) ⌝ }
+{
+    if in_flight(r, m, p) {
+        moved(drop(r, m, p - 1))
+    } else {
+        idle(r)
     }
+}
 
-    fn copy(self, m: Message, p: u32) -> Report
-        requires { ⌜ (self .n ≤ 32) × (1 ≤ p) × (p ≤ 32) ⌝ }
-        ensures { λ r. ⌜ r ≡ step self (Step.Copy m p) ⌝ }
-    {
-        if self.in_flight(m, p) {
-            self.receive(m, p - 1)
-        } else {
-            self.idle()
-        }
+fn timeout(r: Release, p: u32) -> Report
+    requires { ⌜ (r .n ≤ 32) × (p ≤ 32) ⌝ }
+    ensures { λ report. ⌜ report ≡ step r (Step.Timeout p) ⌝ }
+{
+    if p == 0 {
+        let c = r.coordinator;
+        coordinator_goes(r, c.timeout())
+    } else {
+        let i = p - 1;
+        participant_goes(r, i, participant_of(r, i).timeout(r.n, i))
     }
+}
 
-    fn lose(self, m: Message, p: u32) -> Report
-        requires { ⌜ 1 ≤ p ⌝ }
-        ensures { λ r. ⌜ r ≡ step self (Step.Lose m p) ⌝ }
-    {
-        if self.in_flight(m, p) {
-            self.drop(m, p - 1).moved()
-        } else {
-            self.idle()
-        }
+fn crash(r: Release, p: u32) -> Report
+    requires { ⌜ (r .n ≤ 32) × (p ≤ 32) ⌝ }
+    ensures { λ report. ⌜ report ≡ step r (Step.Crash p) ⌝ }
+{
+    if p == 0 {
+        let c = r.coordinator;
+        coordinator_goes(r, c.crash())
+    } else {
+        let i = p - 1;
+        participant_goes(r, i, participant_of(r, i).crash())
     }
+}
 
-    fn timeout(self, p: u32) -> Report
-        requires { ⌜ (self .n ≤ 32) × (p ≤ 32) ⌝ }
-        ensures { λ r. ⌜ r ≡ step self (Step.Timeout p) ⌝ }
-    {
-        if p == 0 {
-            let c = self.coordinator;
-            self.coordinator_goes(c.timeout())
-        } else {
-            let i = p - 1;
-            self.participant_goes(i, self.participant_of(i).timeout(self.n, i))
-        }
+fn restart(r: Release, p: u32) -> Report
+    requires { ⌜ (r .n ≤ 32) × (p ≤ 32) ⌝ }
+    ensures { λ report. ⌜ report ≡ step r (Step.Restart p) ⌝ }
+{
+    if p == 0 {
+        let c = r.coordinator;
+        coordinator_goes(r, c.restart())
+    } else {
+        let i = p - 1;
+        participant_goes(r, i, participant_of(r, i).restart())
     }
+}
 
-    fn crash(self, p: u32) -> Report
-        requires { ⌜ (self .n ≤ 32) × (p ≤ 32) ⌝ }
-        ensures { λ r. ⌜ r ≡ step self (Step.Crash p) ⌝ }
-    {
-        if p == 0 {
-            let c = self.coordinator;
-            self.coordinator_goes(c.crash())
-        } else {
-            let i = p - 1;
-            self.participant_goes(i, self.participant_of(i).crash())
-        }
-    }
-
-    fn restart(self, p: u32) -> Report
-        requires { ⌜ (self .n ≤ 32) × (p ≤ 32) ⌝ }
-        ensures { λ r. ⌜ r ≡ step self (Step.Restart p) ⌝ }
-    {
-        if p == 0 {
-            let c = self.coordinator;
-            self.coordinator_goes(c.restart())
-        } else {
-            let i = p - 1;
-            self.participant_goes(i, self.participant_of(i).restart())
-        }
-    }
-
-    // One step that a reader yields under a header with n.
-    pub fn step(self, s: Step) -> Report
-        requires { ⌜ (self .n ≤ 32) × (inRange (self .n) s ≡ true) × Countable (self .calls) ⌝ }
-        ensures { λ r. ⌜ r ≡ step self s ⌝ }
-    {
-        match s {
-            Step::Start => self.start(),
-            Step::Deliver(m, p) => self.deliver(m, p),
-            Step::Copy(m, p) => self.copy(m, p),
-            Step::Lose(m, p) => self.lose(m, p),
-            Step::Call(p, q) => self.calls(true, p, q),
-            Step::CallLost(p, q) => self.calls(false, p, q),
-            Step::Timeout(p) => self.timeout(p),
-            Step::Crash(p) => self.crash(p),
-            Step::Restart(p) => self.restart(p),
-        }
+// One step that a reader yields under a header with n.
+pub fn step(r: Release, s: Step) -> Report
+    requires { ⌜ (r .n ≤ 32) × (inRange (r .n) s ≡ true) × Countable (r .calls) ⌝ }
+    ensures { λ report. ⌜ report ≡ step r s ⌝ }
+{
+    match s {
+        Step::Start => start(r),
+        Step::Deliver(m, p) => deliver(r, m, p),
+        Step::Copy(m, p) => copy(r, m, p),
+        Step::Lose(m, p) => lose(r, m, p),
+        Step::Call(p, q) => calls(r, true, p, q),
+        Step::CallLost(p, q) => calls(r, false, p, q),
+        Step::Timeout(p) => timeout(r, p),
+        Step::Crash(p) => crash(r, p),
+        Step::Restart(p) => restart(r, p),
     }
 }

@@ -1,0 +1,24 @@
+-- `release::state::with_call` meets its contract, case by case. Assumes nothing.
+use mathlib.Core.Path.{_≡_, sym, ap}
+use native.Mathlib.Omega.{arith}
+use lib.ListN.{length, length-map, List·getD-eq-default}
+use lib.Seq.{set-out}
+use mathlib.Core.Path.{refl}
+use lib.ListN.{getD}
+use Prim.Native.Nat.{_+_}
+use borrow.Author.Tests.{le-ltb}
+use borrow.Author.Needs.{needs}
+use Rattle.release.proofs.state.with_call.Statement.{statement}
+use Rattle.release.proofs.state.with_call.Tie as tie
+
+pub with-call-spec : {M : Type 1} → statement M
+with-call-spec =
+    tie.close
+    (tie.spec
+    (λ c. search needs)
+    (λ c. search needs)
+    (λ c. search needs)
+    (λ c. search needs)
+    (λ c. search needs)
+    (λ c. search needs)
+    (λ c. let l : length (c .before .args .t1 .calls) ≡ 9 = simp length-map at (c .before .good .0 .1 .1 .1 .1 .1 .1 .1 .1 .0 .1 .0 .1) in rw (set-out (c .before .args .t1 .calls) (c .before .args .p) (getD (c .before .args .t1 .calls) (c .before .args .p) 0 + 1) (omega arith)) refl))

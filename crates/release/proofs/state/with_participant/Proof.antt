@@ -1,0 +1,19 @@
+-- `release::state::with_participant` meets its contract, case by case. Assumes nothing.
+use mathlib.Core.Path.{_≡_, sym, ap}
+use native.Mathlib.Omega.{arith}
+use lib.ListN.{length, length-map, List·getD-eq-default}
+use lib.Seq.{set-out}
+use mathlib.Core.Path.{refl}
+use borrow.Author.Tests.{le-ltb}
+use borrow.Author.Needs.{needs}
+use Rattle.release.proofs.state.with_participant.Statement.{statement}
+use Rattle.release.proofs.state.with_participant.Tie as tie
+
+pub with-participant-spec : {M : Type 1} → statement M
+with-participant-spec =
+    tie.close
+    (tie.spec
+    (λ c. search needs)
+    (λ c. search needs)
+    (λ c. search needs)
+    (λ c. let l : length (c .before .args .r .sites) ≡ 8 = simp length-map at (c .before .good .0 .1 .1 .1 .1 .1 .1 .0 .1 .0 .1) in rw (set-out (c .before .args .r .sites) (c .before .args .i) (record { participant = c .before .args .p }) (omega arith)) refl))

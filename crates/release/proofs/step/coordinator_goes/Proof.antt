@@ -1,0 +1,15 @@
+-- `release::step::coordinator_goes` meets its contract, case by case. Assumes nothing.
+use borrow.Author.Needs.{needs}
+use Rattle.release.proofs.step.coordinator_goes.Statement.{statement}
+use Rattle.release.proofs.step.coordinator_goes.Tie as tie
+
+pub coordinator-goes-spec : {M : Type 1} → statement M
+coordinator-goes-spec =
+    tie.close
+    (tie.spec
+    (λ c. search needs)
+    (λ c κs. search needs)
+    (λ c. search needs)
+    (λ c κs. search needs)
+    (λ c. simp (c .idle .ensures, c .before .enum-told .given .1))
+    (λ c. simp (c .coordinator-to .ensures, c .before .before .t .given .1)))

@@ -1,0 +1,13 @@
+-- `release::step::drop` meets its contract, case by case. Assumes nothing.
+use borrow.Author.Needs.{needs}
+use Rattle.release.proofs.step.drop.Statement.{statement}
+use Rattle.release.proofs.step.drop.Tie as tie
+
+pub drop-spec : {M : Type 1} → statement M
+drop-spec =
+    tie.close
+    (tie.spec
+    (λ c κs. search needs)
+    (λ c κs. search needs)
+    (λ c κs. search needs)
+    (λ c. simp (c .with-mask .ensures, c .before .remove .ensures, c .before .before .mask-of .ensures)))

@@ -1,0 +1,15 @@
+-- `release::step::participant_goes` meets its contract, case by case. Assumes nothing.
+use borrow.Author.Needs.{needs}
+use Rattle.release.proofs.step.participant_goes.Statement.{statement}
+use Rattle.release.proofs.step.participant_goes.Tie as tie
+
+pub participant-goes-spec : {M : Type 1} → statement M
+participant-goes-spec =
+    tie.close
+    (tie.spec
+    (λ c. search needs)
+    (λ c κs. search needs)
+    (λ c. search needs)
+    (λ c κs. search needs)
+    (λ c. simp (c .idle .ensures, c .before .enum-told .given .1))
+    (λ c. simp (c .participant-to .ensures, c .before .before .t .given .1)))

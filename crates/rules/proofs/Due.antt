@@ -1,0 +1,51 @@
+-- A transition that a rule gives is due. Assumes nothing.
+use mathlib.Core.Path.{_≡_, refl}
+use mathlib.Core.Bool.{true}
+use Prim.Native.Nat.{ℕ}
+use Rattle.rules.specs.State.{participantOf}
+use Rattle.rules.specs.Report.{moves, known, coordinatorKnown, learnt}
+use Rattle.rules.specs.Step.{participantTo, participantGoes, coordinatorTo}
+use Rattle.rules.specs.Types.{Participant, Waiting, VotingYes, Closing, Uncertain, Terminating, RecordingCommit, RecordingAbort, DoneCommit, DoneAbort, Down, Sent, Transition, NotDue, To, Coordinator, Outcome, Release}
+
+known-moves : (p : Participant) → moves (known p) ≡ true
+known-moves Waiting = refl
+known-moves VotingYes = refl
+known-moves Closing = refl
+known-moves Uncertain = refl
+known-moves (Terminating h) = refl
+known-moves RecordingCommit = refl
+known-moves RecordingAbort = refl
+known-moves DoneCommit = refl
+known-moves DoneAbort = refl
+known-moves Down = refl
+
+coordinator-moves : (c : Coordinator) → moves (coordinatorKnown c) ≡ true
+coordinator-moves Coordinator.Idle = refl
+coordinator-moves (Coordinator.Waiting h) = refl
+coordinator-moves (Coordinator.Terminating h) = refl
+coordinator-moves Coordinator.Commit = refl
+coordinator-moves Coordinator.Abort = refl
+coordinator-moves Coordinator.Down = refl
+coordinator-moves Coordinator.Retired = refl
+
+learnt-moves : (old new : Outcome) → moves new ≡ true → moves (learnt old new) ≡ true
+learnt-moves Outcome.Idle new h = h
+learnt-moves Outcome.Moved new h = h
+learnt-moves Outcome.Commit new h = refl
+learnt-moves Outcome.Abort new h = refl
+
+pub participant-due : (i : ℕ) (p : Participant) (s : Sent) (r : Release) → moves (participantTo i p s r .outcome) ≡ true
+unfolding participantTo
+participant-due i p s r = learnt-moves (known (participantOf r i)) (known p) (known-moves p)
+
+pub coordinator-due : (c : Coordinator) (s : Sent) (r : Release) → moves (coordinatorTo c s r .outcome) ≡ true
+unfolding coordinatorTo
+coordinator-due c s r = learnt-moves (coordinatorKnown (r .coordinator)) (coordinatorKnown c) (coordinator-moves c)
+
+abbrev pub IsTo : Transition → Type 0
+IsTo NotDue = ⊥
+IsTo (To p s) = Unit {0}
+
+pub goes-due : (i : ℕ) (t : Transition) (r : Release) → IsTo t → moves (participantGoes i t r .outcome) ≡ true
+goes-due i NotDue r h = absurd h
+goes-due i (To p s) r h = participant-due i p s r

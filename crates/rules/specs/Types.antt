@@ -1,0 +1,23 @@
+-- The declared types of a release, and those of the layers below that its rules name.
+pub use Rattle.store.specs.declared.LogRecord.{LogRecord}
+pub use Rattle.store.specs.declared.LogRecord.the-variants.{None, Yes, Abort, Commit}
+pub use Rattle.store.specs.declared.LogPair.{LogPair}
+pub use Rattle.store.specs.declared.Store.{Store}
+pub use Rattle.store.specs.declared.Call.{Call}
+pub use Rattle.store.specs.declared.Logged.{Logged}
+pub use Rattle.store.specs.declared.Performed.{Performed}
+pub use Rattle.party.specs.declared.Message.{Message}
+pub use Rattle.party.specs.declared.Sent.{Sent}
+pub use Rattle.party.specs.declared.Decision.{Decision}
+pub use Rattle.party.specs.declared.participant.Participant.{Participant}
+pub use Rattle.party.specs.declared.participant.Participant.the-variants.{Waiting, VotingYes, Closing, Uncertain, Terminating, RecordingCommit, RecordingAbort, DoneCommit, DoneAbort, Down}
+pub use Rattle.party.specs.declared.participant.Transition.{Transition}
+pub use Rattle.party.specs.declared.participant.Transition.the-variants.{NotDue, To}
+pub use Rattle.party.specs.declared.coordinator.Coordinator.{Coordinator}
+pub use Rattle.party.specs.declared.coordinator.Transition.{Transition as CoordinatorTransition}
+pub use Rattle.rules.specs.declared.Site.{Site}
+pub use Rattle.rules.specs.declared.Release.{Release}
+pub use Rattle.schedule.specs.declared.Step.{Step}
+pub use Rattle.schedule.specs.declared.Step.the-variants.{Start, Deliver, Copy, Lose, Timeout, Crash, Restart}
+pub use Rattle.rules.specs.declared.Outcome.{Outcome}
+pub use Rattle.rules.specs.declared.Report.{Report}

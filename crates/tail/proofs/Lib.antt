@@ -1,0 +1,4 @@
+pub mod Tabulate
+pub mod TailRange
+pub mod SingleCases
+pub mod Follows

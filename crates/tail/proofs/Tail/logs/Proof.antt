@@ -1,0 +1,33 @@
+-- `tail::Tail::logs` meets its contract, case by case. Assumes nothing.
+use mathlib.Core.Path.{_≡_, refl, sym, ap, _∙_}
+use Prim.Native.Nat.{ℕ, _-_, _≤_, suc}
+use native.Mathlib.Omega.{arith}
+use lib.ListN.{length, getD}
+use borrow.Author.Needs.{needs}
+use Rattle.tail.specs.Tail.{siteOf, pairOf, fieldsOf, tabulate, every}
+use Rattle.tail.proofs.Tabulate.{upTo, upTo-next, upTo-done}
+use Rattle.tail.proofs.Tail.logs.Statement.{statement}
+use Rattle.tail.proofs.Tail.logs.Tie as tie
+
+abbrev Inv-loop : tie.InvT-loop
+Inv-loop participants logs₀ i₀ logs i = (i ≤ 8) × (length logs₀ ≡ 8) × (logs ≡ upTo i (λ j. pairOf (getD participants j (record { state = 0; heard = 0; first = 0; last = 0 }))) logs₀)
+
+abbrev μ-loop : tie.MeasureT-loop
+μ-loop participants logs₀ i₀ logs i = 8 - i
+
+pub logs-spec : {M : Type 1} → statement M
+logs-spec =
+    tie.close
+    (tie.spec
+    Inv-loop
+    μ-loop
+    (λ c. search needs)
+    (λ c. search needs)
+    (λ c. search needs)
+    (λ c κs. search needs)
+    (λ c. search needs)
+    (λ c. search needs)
+    (λ c. search needs)
+    (λ c. search needs)
+    (λ c. (omega arith, refl, upTo-next _ _ _ _ _ (c .before .before .before .loop .inv .2) (c .pair .ensures)))
+    (λ c. upTo-done 8 _ _ _ _ (c .before .loop .inv .0) (omega arith) refl (c .before .loop .inv .2)))

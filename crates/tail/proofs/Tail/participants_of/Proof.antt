@@ -1,0 +1,32 @@
+-- `tail::Tail::participants_of` meets its contract, case by case. Assumes nothing.
+use mathlib.Core.Path.{_≡_, refl, sym, ap, _∙_}
+use Prim.Native.Nat.{ℕ, _-_, _≤_, suc}
+use native.Mathlib.Omega.{arith}
+use lib.ListN.{length, getD}
+use borrow.Author.Needs.{needs}
+use Rattle.tail.specs.Tail.{siteOf, pairOf, fieldsOf, tabulate, every}
+use Rattle.tail.proofs.Tabulate.{upTo, upTo-next, upTo-done}
+use Rattle.tail.proofs.Tail.participants_of.Statement.{statement}
+use Rattle.tail.proofs.Tail.participants_of.Tie as tie
+
+abbrev Inv-loop : tie.InvT-loop
+Inv-loop r participants₀ i₀ participants i = (i ≤ 8) × (length participants₀ ≡ 8) × (participants ≡ upTo i (fieldsOf r) participants₀)
+
+abbrev μ-loop : tie.MeasureT-loop
+μ-loop r participants₀ i₀ participants i = 8 - i
+
+pub participants-of-spec : {M : Type 1} → statement M
+participants-of-spec =
+    tie.close
+    (tie.spec
+    Inv-loop
+    μ-loop
+    (λ c. search needs)
+    (λ c. search needs)
+    (λ c κs. search needs)
+    (λ c. search needs)
+    (λ c. search needs)
+    (λ c. search needs)
+    (λ c. search needs)
+    (λ c. (omega arith, refl, upTo-next _ _ _ _ _ (c .before .before .loop .inv .2) (c .of .ensures)))
+    (λ c. upTo-done 8 _ _ _ _ (c .before .loop .inv .0) (omega arith) refl (c .before .loop .inv .2)))

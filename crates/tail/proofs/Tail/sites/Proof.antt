@@ -1,0 +1,33 @@
+-- `tail::Tail::sites` meets its contract, case by case. Assumes nothing.
+use mathlib.Core.Path.{_≡_, refl, sym, ap, _∙_}
+use Prim.Native.Nat.{ℕ, _-_, _≤_, suc}
+use native.Mathlib.Omega.{arith}
+use lib.ListN.{length, getD}
+use borrow.Author.Needs.{needs}
+use Rattle.tail.specs.Tail.{siteOf, pairOf, fieldsOf, tabulate, every}
+use Rattle.tail.proofs.Tabulate.{upTo, upTo-next, upTo-done}
+use Rattle.tail.proofs.Tail.sites.Statement.{statement}
+use Rattle.tail.proofs.Tail.sites.Tie as tie
+
+abbrev Inv-loop : tie.InvT-loop
+Inv-loop participants sites₀ i₀ sites i = (i ≤ 8) × (length sites₀ ≡ 8) × (sites ≡ upTo i (λ j. siteOf (getD participants j (record { state = 0; heard = 0; first = 0; last = 0 }))) sites₀)
+
+abbrev μ-loop : tie.MeasureT-loop
+μ-loop participants sites₀ i₀ sites i = 8 - i
+
+pub sites-spec : {M : Type 1} → statement M
+sites-spec =
+    tie.close
+    (tie.spec
+    Inv-loop
+    μ-loop
+    (λ c. search needs)
+    (λ c. search needs)
+    (λ c. search needs)
+    (λ c κs. search needs)
+    (λ c. search needs)
+    (λ c. search needs)
+    (λ c. search needs)
+    (λ c. search needs)
+    (λ c. (omega arith, refl, upTo-next _ _ _ _ _ (c .before .before .before .loop .inv .2) (c .site .ensures)))
+    (λ c. upTo-done 8 _ _ _ _ (c .before .loop .inv .0) (omega arith) refl (c .before .loop .inv .2)))

@@ -1,0 +1,112 @@
+-- The fields of the tail: a release as document 01's numbers, and back. What the tail of that n couldn't hold is out of range. Assumes nothing.
+use mathlib.Core.Path.{_≡_}
+use mathlib.Core.Bool.{Bool, true, cond, _&&_}
+use mathlib.Core.List.{List, [], _∷_}
+use Prim.Native.Nat.{ℕ, zero, suc}
+use lib.Dec.{eqb, leb, ltb}
+use lib.ListN.{length, getD}
+use Rattle.mask.specs.Mask.{within}
+use Rattle.store.specs.Log.{recordNumber, recordOf, isRecord, isAllowed, places}
+use Rattle.party.specs.Participant
+use Rattle.party.specs.Coordinator
+use Rattle.schedule.specs.Step.{numberInRange}
+use Rattle.rules.specs.State.{participantOf, firstOf, lastOf, types}
+use Rattle.rules.specs.Run.{countLimit}
+use Rattle.tail.specs.Types.{LogPair, Site, Release, ParticipantFields, Tail}
+
+-- f 0 to f (k - 1), and whether all of k places pass a test
+
+unfoldable pub tabulate : {A : Type 0} → ℕ → (ℕ → A) → List A
+tabulate zero f = []
+tabulate (suc k) f = f 0 ∷ tabulate k (λ i. f (suc i))
+
+unfoldable pub every : (ℕ → Bool) → ℕ → Bool
+every test zero = true
+every test (suc k) = every test k && test k
+
+-- a release in numbers: n, votes, coordinator state and heard mask, five message masks; for participants 1 to 8 state, heard mask, first, last;
+-- for parties 0 to 8 the due store calls made
+
+abbrev pub fieldsOf : Release → ℕ → ParticipantFields
+fieldsOf r i =
+    record {
+      state = Participant.stateNumber (participantOf r i);
+      heard = Participant.heardOf (participantOf r i);
+      first = recordNumber (firstOf r i);
+      last = recordNumber (lastOf r i);
+    }
+
+abbrev pub tailOf : Release → Tail
+tailOf r =
+    record {
+      n = r .n;
+      votes = r .votes;
+      state = Coordinator.stateNumber (r .coordinator);
+      heard = Coordinator.heardOf (r .coordinator);
+      messages = r .messages;
+      participants = tabulate places (fieldsOf r);
+      calls = r .calls;
+    }
+
+-- and back
+
+abbrev pub siteOf : ParticipantFields → Site
+siteOf f = record { participant = Participant.participantOf (f .state) (f .heard) }
+
+abbrev pub pairOf : ParticipantFields → LogPair
+pairOf f = record { first = recordOf (f .first); last = recordOf (f .last) }
+
+abbrev pub fieldsAt : Tail → ℕ → ParticipantFields
+fieldsAt t i = getD (t .participants) i (record { state = 0; heard = 0; first = 0; last = 0 })
+
+abbrev pub releaseOf : Tail → Release
+releaseOf t =
+    record {
+      n = t .n;
+      votes = t .votes;
+      coordinator = Coordinator.coordinatorOf (t .state) (t .heard);
+      messages = t .messages;
+      sites = tabulate places (λ i. siteOf (fieldsAt t i));
+      store = record { logs = tabulate places (λ i. pairOf (fieldsAt t i)) };
+      calls = t .calls;
+    }
+
+-- field by field, what the tail of that n could hold
+
+abbrev pub messagesInRange : Tail → Bool
+messagesInRange t = every (λ k. within (t .n) (getD (t .messages) k 0)) types
+
+abbrev pub masksInRange : Tail → Bool
+masksInRange t = within (t .n) (t .votes) && messagesInRange t
+
+abbrev pub recordsInRange : ParticipantFields → Bool
+recordsInRange f = isRecord (f .first) && (isRecord (f .last) && isAllowed (pairOf f))
+
+-- zeros beyond n
+
+abbrev pub fieldsZero : ParticipantFields → Bool
+fieldsZero f = eqb (f .state) 0 && (eqb (f .heard) 0 && (eqb (f .first) 0 && eqb (f .last) 0))
+
+abbrev pub participantInRange : ℕ → ℕ → ParticipantFields → Bool
+participantInRange n i f = cond (ltb i n) (Participant.numbersInRange n i (f .state) (f .heard) && recordsInRange f) (fieldsZero f)
+
+abbrev pub participantsInRange : Tail → Bool
+participantsInRange t = every (λ i. participantInRange (t .n) i (fieldsAt t i)) places
+
+abbrev pub partiesInRange : Tail → Bool
+partiesInRange t = Coordinator.numbersInRange (t .n) (t .state) (t .heard) && participantsInRange t
+
+-- a call count of 65,535 is out of range
+abbrev pub countInRange : ℕ → ℕ → ℕ → Bool
+countInRange n p k = cond (leb p n) (ltb k countLimit) (eqb k 0)
+
+abbrev pub callsInRange : Tail → Bool
+callsInRange t = every (λ p. countInRange (t .n) p (getD (t .calls) p 0)) (suc places)
+
+abbrev pub tailInRange : Tail → Bool
+tailInRange t = numberInRange 1 (t .n) places && (masksInRange t && (partiesInRange t && callsInRange t))
+
+-- The way back and the numbers belong together: decode after encode is the identity, encode after decode on what is in range
+pub record TailNumbers : Type 0 where
+  pub decoded : (r : Release) → length (r .sites) ≡ places → length (r .store .logs) ≡ places → releaseOf (tailOf r) ≡ r
+  pub encoded : (t : Tail) → length (t .participants) ≡ places → tailInRange t ≡ true → tailOf (releaseOf t) ≡ t

@@ -1,0 +1,12 @@
+-- The declared types of the tail, and those of the layers below that its fields come from.
+pub use Rattle.store.specs.declared.LogPair.{LogPair}
+pub use Rattle.party.specs.declared.Message.{Message}
+pub use Rattle.party.specs.declared.participant.Participant.{Participant}
+pub use Rattle.party.specs.declared.coordinator.Coordinator.{Coordinator}
+pub use Rattle.schedule.specs.declared.Step.{Step}
+pub use Rattle.rules.specs.declared.Site.{Site}
+pub use Rattle.rules.specs.declared.Release.{Release}
+pub use Rattle.rules.specs.declared.Report.{Report}
+pub use Rattle.tail.specs.declared.ParticipantFields.{ParticipantFields}
+pub use Rattle.tail.specs.declared.Tail.{Tail}
+pub use Rattle.tail.specs.declared.single.Stepped.{Stepped}

@@ -1,0 +1,68 @@
+// The single step: one step of a whole release's state, on document 01's numbers.
+use super::Tail;
+use number::NOT_DUE;
+use number::OUT_OF_RANGE;
+use release::step::moves;
+use release::step::report_byte;
+use release::step::step;
+use schedule::Kind;
+use schedule::Step;
+ghost use mathlib.Core.Path.{_≡_};
+ghost use mathlib.Core.Bool.{true};
+ghost use Rattle.schedule.specs.Step.{inRange};
+ghost use Rattle.rules.specs.Step.{step};
+ghost use Rattle.tail.specs.Tail.{releaseOf, tailInRange};
+ghost use Rattle.tail.specs.Single.{refused, handed, singleStep};
+
+// The refusal's number or 0, the state after the step or as given, and the report byte or 0.
+pub struct Stepped {
+    pub number: u32,
+    pub state: Tail,
+    pub byte: u8,
+}
+
+impl Tail {
+    fn refused(self, k: u32) -> Stepped
+        ensures { λ s. ⌜ s ≡ refused k self ⌝ }
+    {
+        Stepped {
+            number: k,
+            state: self,
+            byte: 0,
+        }
+    }
+
+    fn stepped(self, s: Step) -> Stepped
+        requires { ⌜ (tailInRange self ≡ true) × (inRange (self .n) s ≡ true) ⌝ }
+        ensures { λ x. ⌜ x ≡ handed self (step (releaseOf self) s) ⌝ }
+    {
+        let report = step(self.release(), s);
+        let outcome = report.outcome;
+        if moves(outcome) {
+            let next = report.next;
+            let state = Tail::of(next);
+            Stepped {
+                number: 0,
+                state: state,
+                byte: report_byte(outcome),
+            }
+        } else {
+            self.refused(NOT_DUE)
+        }
+    }
+
+    // The single step, by the kind of the step and the two numbers of its body, 0 where it has none.
+    pub fn single_step(self, kind: u32, a: u32, b: u32) -> Stepped
+        ensures { λ s. ⌜ s ≡ singleStep self kind a b ⌝ }
+    {
+        if self.in_range() {
+            if Step::numbers_in_range(self.n, kind, a, b) {
+                self.stepped(Step::of(Kind::of(kind), a, b))
+            } else {
+                self.refused(OUT_OF_RANGE)
+            }
+        } else {
+            self.refused(OUT_OF_RANGE)
+        }
+    }
+}
