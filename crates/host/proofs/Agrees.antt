@@ -1,7 +1,6 @@
 -- The host's participant is the participant of the whole release. Assumes nothing.
 use mathlib.Core.Path.{_≡_, refl, sym, ap, ap₂, _∙_}
-use mathlib.Core.Bool.{Bool, true, cond}
-use mathlib.Core.List.{List}
+use mathlib.Core.Bool.{true}
 use Prim.Native.Nat.{ℕ, suc, _-_, _≤_, _<_}
 use native.Mathlib.Omega.{arith}
 use borrow.Author.Tests.{le-leb}
@@ -10,11 +9,11 @@ use Rattle.store.specs.Log.{log, perform, places}
 use Rattle.party.specs.Participant
 use Rattle.party.proofs.Numbers.{participant-numbers}
 use Rattle.rules.specs.State.{participantOf, logOf}
-use Rattle.rules.specs.Step.{participantGoes, participantAnswered, participantPerformed, participantCalls, step}
-use Rattle.host.specs.Types.{LogPair, Call, Logged, Performed, Participant, Transition, NotDue, To, Release, Step, Event}
+use Rattle.rules.specs.Step.{participantAnswered, participantCalls, step}
+use Rattle.host.specs.Types.{LogPair, Call, Logged, Performed, Participant, Transition, Release, Step, Event}
 use Rattle.host.specs.Event.{eventNumber, detailNumber, answerNumber, eventOf, eventInRange}
-use Rattle.host.specs.Host.{answers, answered, onEvent, hostInRange, hostTransition, returned, left, hostReturns, hostLeaves}
-use Rattle.host.specs.Agrees.{leads, Agrees, HostAgrees}
+use Rattle.host.specs.Host.{answers, answered, onEvent, hostInRange, hostTransition, returned, left}
+use Rattle.host.specs.Agrees.{leads, HostAgrees}
 use Rattle.host.proofs.Numbers.{event-numbers}
 
 -- the numbers of a participant and of an event are in range, and lead to what those lead to

@@ -1,18 +1,18 @@
 -- What numbers in range give the host's step: places that a mask has, and a next state whose numbers fit bytes. Assumes nothing.
-use mathlib.Core.Path.{_≡_, refl}
-use mathlib.Core.Bool.{Bool, true, _&&_}
-use Prim.Native.Nat.{ℕ, _-_, _^_, _≤_, _<_}
+use mathlib.Core.Path.{_≡_}
+use mathlib.Core.Bool.{true}
+use Prim.Native.Nat.{ℕ, _-_, _≤_, _<_}
 use native.Mathlib.Omega.{arith}
 use lib.Pow.{pow-mono}
 use Rattle.number.proofs.Laws.{and-left, and-right}
 use Rattle.store.specs.Log.{places}
-use Rattle.party.specs.Message.{typeNumber, sentNumber}
+use Rattle.party.specs.Message.{sentNumber}
 use Rattle.party.specs.Participant
 use Rattle.party.proofs.Cases.{crash-cases, restart-cases}
 use Rattle.party.proofs.Ranges.{ParticipantInRange, participant-held, Guard, Guarded, pending-guarded, ToInRange, request-range, decision-range, timeout-range, answer-range}
 use Rattle.schedule.specs.Step.{numberInRange}
 use Rattle.schedule.proofs.Numbers.{between}
-use Rattle.host.specs.Types.{LogRecord, Call, Message, Sent, Participant, Transition, NotDue, To, Event}
+use Rattle.host.specs.Types.{Call, Message, Sent, Participant, Transition, NotDue, To, Event}
 use Rattle.host.specs.Event.{eventOf, isEvent, isWritten, eventInRange, numbersInRange}
 use Rattle.host.specs.Host.{answers, onEvent, hostInRange, hostTransition, HeardFits}
 

@@ -1,6 +1,6 @@
 -- The numbers of events and the way back belong together. Assumes nothing.
 use mathlib.Core.Path.{_≡_, refl}
-use mathlib.Core.Bool.{Bool, true, false}
+use mathlib.Core.Bool.{true, false}
 use Rattle.number.specs.Numbering.{Inverse3}
 use Rattle.number.proofs.Laws.{inverse3}
 use Rattle.store.proofs.Numbers.{record-numbers}

@@ -1,7 +1,7 @@
 -- Where things stand in a release, and the steps by the numbers of parties: a number that is not 0 is the one after its place. Assumes nothing.
 use mathlib.Core.Path.{_≡_, refl, ap, ap₂}
 use mathlib.Core.Bool.{Bool, cond}
-use Prim.Native.Nat.{ℕ, zero, suc, _+_, _-_, _≤_, _<_}
+use Prim.Native.Nat.{ℕ, zero, suc, _+_, _-_, _<_}
 use native.Mathlib.Omega.{arith}
 use Rattle.rules.specs.State.{messagePlace}
 use Rattle.rules.specs.Step.{idle, moved, drop, receive, calls, participantCalls, coordinatorCalls, step}

@@ -10,10 +10,11 @@ use rules::TYPES;
 use store::LOGS;
 use store::LogPair;
 ghost use mathlib.Core.Path.{_≡_};
-ghost use Prim.Native.Nat.{_+_, _<_};
-ghost use lib.ListN.{getD, set};
+ghost use Prim.Native.Nat.{_<_};
+ghost use lib.ListN.{getD};
 ghost use Rattle.rules.specs.State.{messagePlace, participantOf, logOf, maskOf};
-ghost use Rattle.rules.specs.Step.{withMask, withParticipant, withCoordinator, called};
+ghost use Rattle.rules.specs.Step.{withMask, withParticipant, withCoordinator, withLog, counted, called};
+ghost use Rattle.rules.specs.Run.{countLimit};
 
 // Where the mask of a message's type stands.
 fn message_place(m: Message) -> usize
@@ -99,10 +100,20 @@ pub fn with_coordinator(r: Release, c: Coordinator) -> Release
     }
 }
 
+pub fn with_log(r: Release, j: u32, l: LogPair) -> Release
+    ensures { λ next. ⌜ next ≡ withLog j l r ⌝ }
+{
+    let mut next = r;
+    let store = r.store;
+    let written = store.with_log(j as usize, l);
+    next.store = written;
+    next
+}
+
 // One call more of party p.
-fn with_call(r: Release, p: u32) -> Release
-    requires { ⌜ getD (r .calls) p 0 < 65535 ⌝ }
-    ensures { λ next. ⌜ next ≡ record { n = r .n; votes = r .votes; coordinator = r .coordinator; messages = r .messages; sites = r .sites; store = r .store; calls = set (r .calls) p (getD (r .calls) p 0 + 1) } ⌝ }
+fn counted(r: Release, p: u32) -> Release
+    requires { ⌜ getD (r .calls) p 0 < countLimit ⌝ }
+    ensures { λ next. ⌜ next ≡ counted p r ⌝ }
 {
     let mut next = r;
     let place = p as usize;
@@ -114,14 +125,10 @@ fn with_call(r: Release, p: u32) -> Release
     }
 }
 
-// A call of party p, which leaves this log at place j.
+// A due call of party p, which leaves this log at place j.
 pub fn called(r: Release, p: u32, j: u32, l: LogPair) -> Release
-    requires { ⌜ getD (r .calls) p 0 < 65535 ⌝ }
+    requires { ⌜ getD (r .calls) p 0 < countLimit ⌝ }
     ensures { λ next. ⌜ next ≡ called p j l r ⌝ }
 {
-    let mut next = with_call(r, p);
-    let store = r.store;
-    let written = store.with_log(j as usize, l);
-    next.store = written;
-    next
+    with_log(counted(r, p), j, l)
 }

@@ -20,14 +20,14 @@ use store::Logged;
 use store::Performed;
 ghost use mathlib.Core.Path.{_≡_};
 ghost use mathlib.Core.Bool.{true, false};
-ghost use Prim.Native.Nat.{suc, _+_, _≤_, _<_};
+ghost use Prim.Native.Nat.{_+_, _≤_, _<_};
 ghost use lib.ListN.{getD};
 ghost use Rattle.schedule.specs.Step.{inRange};
 ghost use Rattle.schedule.specs.declared.Step.{Step};
 ghost use Rattle.rules.specs.Report.{outcomeNumber, moves, known, coordinatorKnown, learnt};
 ghost use Rattle.rules.specs.Step.{idle, moved, send, drop, sendAll, reply, participantTo, participantGoes, broadcast, coordinatorTo, coordinatorGoes, receive, participantAnswered, participantPerformed, participantCalls, coordinatorAnswered, coordinatorPerformed, coordinatorCalls, calls, step};
 ghost use Rattle.rules.specs.Due.{messageDue};
-ghost use Rattle.rules.specs.Run.{Countable};
+ghost use Rattle.rules.specs.Run.{countLimit, Countable};
 
 // Whether the step was due.
 pub fn moves(o: Outcome) -> bool
@@ -229,7 +229,7 @@ fn participant_answered(
     x: Logged,
     t: party::participant::Transition,
 ) -> Report
-    requires { ⌜ (i < 32) × (getD (r .calls) (i + 1) 0 < 65535) ⌝ }
+    requires { ⌜ (i < 32) × (getD (r .calls) (i + 1) 0 < countLimit) ⌝ }
     ensures { λ report. ⌜ report ≡ participantAnswered heard i j x t r ⌝ }
 {
     match t {
@@ -247,7 +247,7 @@ fn participant_answered(
 }
 
 fn participant_performed(r: Release, heard: bool, i: u32, j: u32, x: Performed) -> Report
-    requires { ⌜ (r .n ≤ 32) × (i < 32) × (j < 32) × (getD (r .calls) (i + 1) 0 < 65535) ⌝ }
+    requires { ⌜ (r .n ≤ 32) × (i < 32) × (j < 32) × (getD (r .calls) (i + 1) 0 < countLimit) ⌝ }
     ensures { λ report. ⌜ report ≡ participantPerformed heard i j x r ⌝ }
 {
     match x {
@@ -261,7 +261,7 @@ fn participant_performed(r: Release, heard: bool, i: u32, j: u32, x: Performed) 
 }
 
 fn participant_calls(r: Release, heard: bool, i: u32, j: u32) -> Report
-    requires { ⌜ (r .n ≤ 32) × (i < 32) × (j < 32) × (getD (r .calls) (i + 1) 0 < 65535) ⌝ }
+    requires { ⌜ (r .n ≤ 32) × (i < 32) × (j < 32) × (getD (r .calls) (i + 1) 0 < countLimit) ⌝ }
     ensures { λ report. ⌜ report ≡ participantCalls heard i j r ⌝ }
 {
     let call = participant_of(r, i).pending(i, j);
@@ -276,7 +276,7 @@ fn coordinator_answered(
     x: Logged,
     t: party::coordinator::Transition,
 ) -> Report
-    requires { ⌜ (r .n ≤ 32) × (getD (r .calls) 0 0 < 65535) ⌝ }
+    requires { ⌜ (r .n ≤ 32) × (getD (r .calls) 0 0 < countLimit) ⌝ }
     ensures { λ report. ⌜ report ≡ coordinatorAnswered heard j x t r ⌝ }
 {
     match t {
@@ -294,7 +294,7 @@ fn coordinator_answered(
 }
 
 fn coordinator_performed(r: Release, heard: bool, j: u32, x: Performed) -> Report
-    requires { ⌜ (r .n ≤ 32) × (j < 32) × (getD (r .calls) 0 0 < 65535) ⌝ }
+    requires { ⌜ (r .n ≤ 32) × (j < 32) × (getD (r .calls) 0 0 < countLimit) ⌝ }
     ensures { λ report. ⌜ report ≡ coordinatorPerformed heard j x r ⌝ }
 {
     match x {
@@ -308,7 +308,7 @@ fn coordinator_performed(r: Release, heard: bool, j: u32, x: Performed) -> Repor
 }
 
 fn coordinator_calls(r: Release, heard: bool, j: u32) -> Report
-    requires { ⌜ (r .n ≤ 32) × (j < 32) × (getD (r .calls) 0 0 < 65535) ⌝ }
+    requires { ⌜ (r .n ≤ 32) × (j < 32) × (getD (r .calls) 0 0 < countLimit) ⌝ }
     ensures { λ report. ⌜ report ≡ coordinatorCalls heard j r ⌝ }
 {
     let c = r.coordinator;
@@ -382,6 +382,20 @@ fn lose(r: Release, m: Message, p: u32) -> Report
     }
 }
 
+fn call(r: Release, p: u32, q: u32) -> Report
+    requires { ⌜ (r .n ≤ 32) × (p ≤ 32) × (q ≤ 32) × Countable (r .calls) ⌝ }
+    ensures { λ report. ⌜ report ≡ step r (Step.Call p q) ⌝ }
+{
+    calls(r, true, p, q)
+}
+
+fn call_lost(r: Release, p: u32, q: u32) -> Report
+    requires { ⌜ (r .n ≤ 32) × (p ≤ 32) × (q ≤ 32) × Countable (r .calls) ⌝ }
+    ensures { λ report. ⌜ report ≡ step r (Step.CallLost p q) ⌝ }
+{
+    calls(r, false, p, q)
+}
+
 fn timeout(r: Release, p: u32) -> Report
     requires { ⌜ (r .n ≤ 32) × (p ≤ 32) ⌝ }
     ensures { λ report. ⌜ report ≡ step r (Step.Timeout p) ⌝ }
@@ -431,8 +445,8 @@ pub fn step(r: Release, s: Step) -> Report
         Step::Deliver(m, p) => deliver(r, m, p),
         Step::Copy(m, p) => copy(r, m, p),
         Step::Lose(m, p) => lose(r, m, p),
-        Step::Call(p, q) => calls(r, true, p, q),
-        Step::CallLost(p, q) => calls(r, false, p, q),
+        Step::Call(p, q) => call(r, p, q),
+        Step::CallLost(p, q) => call_lost(r, p, q),
         Step::Timeout(p) => timeout(r, p),
         Step::Crash(p) => crash(r, p),
         Step::Restart(p) => restart(r, p),

@@ -1,12 +1,12 @@
 -- What a log says, and what a call makes of it. Assumes nothing.
 use mathlib.Core.Path.{_≡_, refl}
 use mathlib.Core.Logic.{_≢_}
-use mathlib.Core.Bool.{false, _||_}
+use mathlib.Core.Bool.{_||_}
 use Prim.Native.Nat.{ℕ, _<_}
 use native.Mathlib.Omega.{arith}
 use lib.Dec.{eqb}
 use borrow.Author.Tests.{eqb-true}
-use Rattle.mask.specs.Mask.{has, insert}
+use Rattle.mask.specs.Mask.{has}
 use Rattle.mask.proofs.Laws.{has-insert-neither}
 use Rattle.store.specs.Log.{logOnce, perform}
 use Rattle.party.specs.Participant

@@ -1,31 +1,27 @@
 -- Every release that a run reaches is in range, and keeps its logs. Assumes nothing.
-use mathlib.Core.Path.{_≡_, refl, sym, ap, _∙_}
+use mathlib.Core.Path.{_≡_, refl}
 use mathlib.Core.Logic.{_≢_}
 use mathlib.Core.List.{List, [], _∷_}
-use mathlib.Core.Bool.{Bool, true, false, not}
+use mathlib.Core.Bool.{true}
 use Prim.Native.Nat.{ℕ, suc, _+_, _^_, _≤_, _<_}
 use native.Mathlib.Omega.{arith}
-use lib.Dec.{eqb}
 use lib.Pow.{pow-pos}
 use lib.ListN.{getD}
-use borrow.Author.Tests.{eqb-false, ne-eqb}
-use Rattle.number.proofs.Laws.{and-true}
 use Rattle.mask.specs.Mask.{has, insert, remove, full}
-use Rattle.mask.proofs.Laws.{lt-within, within-lt, insert-lt, remove-le, full-lt, full-more, has-zero, has-full, has-insert-other, not-inserted}
+use Rattle.mask.proofs.Laws.{lt-within, within-lt, insert-lt, remove-le, full-lt}
 use Rattle.store.specs.Log.{allowed, empty}
 use Rattle.party.specs.Participant
 use Rattle.party.specs.Coordinator
-use Rattle.party.proofs.Ranges.{ParticipantInRange, CoordinatorHeardInRange, CoordinatorInRange, ToInRange, CoordinatorToInRange, participant-tested, coordinator-tested, request-range, decision-range, timeout-range, answer-range, none-heard, replyYes-range, replyAbort-range, coordinator-answer-range}
-use Rattle.party.proofs.Cases.{cond-cases, answer-cases, request-cases, decision-cases, timeout-cases, crash-cases, restart-cases, start-cases, replyYes-cases, replyAbort-cases, coordinator-timeout-cases, coordinator-answer-cases, coordinator-crash-cases, coordinator-restart-cases, enters-cases}
+use Rattle.party.proofs.Ranges.{ParticipantInRange, CoordinatorInRange, ToInRange, CoordinatorToInRange, participant-tested, coordinator-tested, request-range, decision-range, timeout-range, answer-range, none-heard, replyYes-range, replyAbort-range, coordinator-answer-range}
+use Rattle.party.proofs.Cases.{crash-cases, restart-cases, start-cases, coordinator-timeout-cases, coordinator-crash-cases, coordinator-restart-cases}
 use Rattle.rules.specs.State.{participantOf, participantAt, logOf, logAt, firstOf, lastOf, maskAt, maskOf, waiting, fresh}
 use Rattle.rules.specs.Step.{called, send, sendAll, drop, withMask, withParticipant, participantTo, withCoordinator, coordinatorTo, coordinatorGoes, receive, step}
 use Rattle.rules.specs.Run.{AllInRange, after}
 use Rattle.rules.specs.Range.{ReleaseInRange, ReachedInRange, LogsKept, ReachedKept}
-use Rattle.rules.specs.Types.{LogRecord, None, Yes, Abort, Commit, LogPair, Participant, Waiting, VotingYes, Closing, Uncertain, Terminating, RecordingCommit, RecordingAbort, DoneCommit, DoneAbort, Down, Site, Sent, Decision, Transition, NotDue, To, Coordinator, CoordinatorTransition, Message, Step, Release, Report}
-use Rattle.rules.proofs.FirstRecords.{Keep, true-false}
+use Rattle.rules.specs.Types.{LogRecord, None, Yes, Abort, Commit, LogPair, Participant, Waiting, Site, Sent, Decision, NotDue, To, Coordinator, CoordinatorTransition, Message, Step, Release, Report}
+use Rattle.rules.proofs.FirstRecords.{Keep}
 use Rattle.rules.proofs.Invariant.{Inv, Allowed}
 use Rattle.rules.proofs.Updates.{set-all, mask-all, Good}
-use Rattle.rules.proofs.Calls.{Guard}
 use Rattle.rules.proofs.Bounds.{Bounds, bounds}
 use Rattle.rules.proofs.Causes.{Cause, idles, starts, delivers, copies, loses, answered, lost, coordinator-answered, coordinator-lost, times-out, crashes, restarts, coordinator-times-out, coordinator-crashes, coordinator-restarts, cause}
 use Rattle.rules.proofs.Safety.{call-guard, step-good}

@@ -79,17 +79,17 @@ receive Message.Commit i r = participantTo i (Participant.onDecision Decision.Co
 receive Message.Abort i r = participantTo i (Participant.onDecision Decision.Abort (participantOf r i)) Sent.Nothing r
 
 -- a due call of party p on log j: the log that it leaves, and one call more
+
+abbrev pub counted : ℕ → Release → Release
+counted p r =
+    record { n = r .n; votes = r .votes; coordinator = r .coordinator; messages = r .messages; sites = r .sites; store = r .store; calls = set (r .calls) p (getD (r .calls) p 0 + 1) }
+
+abbrev pub withLog : ℕ → LogPair → Release → Release
+withLog j l r =
+    record { n = r .n; votes = r .votes; coordinator = r .coordinator; messages = r .messages; sites = r .sites; store = record { logs = set (r .store .logs) j l }; calls = r .calls }
+
 abbrev pub called : ℕ → ℕ → LogPair → Release → Release
-called p j l r =
-    record {
-      n = r .n;
-      votes = r .votes;
-      coordinator = r .coordinator;
-      messages = r .messages;
-      sites = r .sites;
-      store = record { logs = set (r .store .logs) j l };
-      calls = set (r .calls) p (getD (r .calls) p 0 + 1);
-    }
+called p j l r = withLog j l (counted p r)
 
 -- A call is due when that party has it pending, its Log would not be refused, and the answer is one its state can get. The log changes;
 -- where the answer is heard (kind 06, not 07) the party does too

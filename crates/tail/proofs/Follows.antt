@@ -2,13 +2,11 @@
 -- Assumes nothing.
 use mathlib.Core.Path.{_≡_, refl, sym, ap, ap₂, _∙_}
 use mathlib.Core.Bool.{Bool, true, false, cond, _&&_}
-use mathlib.Core.List.{List}
 use Prim.Native.Nat.{ℕ, zero, suc, _≤_, _<_}
 use native.Mathlib.Omega.{arith}
-use native.Mathlib.Decide.{decLt}
 use lib.Dec.{eqb, leb, ltb}
 use lib.ListN.{length, length-replicate, getD}
-use borrow.Author.Tests.{ltb-true, ltb-false, leb-false, eqb-true, lt-ltb, le-leb, eq-eqb}
+use borrow.Author.Tests.{ltb-true, ltb-false, leb-false, eqb-true, lt-ltb, le-leb}
 use Rattle.number.proofs.Laws.{and-left, and-right, and-true, is-number, are-numbers, are-numbers3}
 use Rattle.mask.specs.Mask.{within}
 use Rattle.store.specs.Log.{recordNumber, recordOf, isRecord, isAllowed, empty, places}
@@ -16,13 +14,13 @@ use Rattle.store.proofs.Numbers.{record-numbers}
 use Rattle.party.specs.Participant
 use Rattle.party.specs.Coordinator
 use Rattle.party.proofs.Numbers.{participant-numbers, coordinator-numbers}
-use Rattle.schedule.specs.Step.{stepNumber, firstNumber, secondNumber, stepOf, isStep, inRange, numbersInRange}
+use Rattle.schedule.specs.Step.{stepNumber, firstNumber, secondNumber, stepOf, inRange, numbersInRange}
 use Rattle.schedule.proofs.Numbers.{step-numbers}
-use Rattle.rules.specs.State.{participantOf, logOf, firstOf, lastOf, maskOf, waiting, fresh}
+use Rattle.rules.specs.State.{participantOf, logOf, firstOf, lastOf, waiting, fresh}
 use Rattle.rules.specs.Step.{step}
-use Rattle.rules.specs.Run.{after, AllInRange, Countable}
+use Rattle.rules.specs.Run.{after, Countable}
 use Rattle.rules.specs.Range.{ReleaseInRange}
-use Rattle.tail.specs.Tail.{tabulate, every, fieldsOf, tailOf, siteOf, pairOf, fieldsAt, releaseOf, recordsInRange, fieldsZero, participantInRange, participantsInRange, partiesInRange, messagesInRange, masksInRange, countInRange, callsInRange, tailInRange, TailNumbers}
+use Rattle.tail.specs.Tail.{tabulate, every, fieldsOf, tailOf, siteOf, pairOf, fieldsAt, releaseOf, recordsInRange, fieldsZero, participantInRange, participantsInRange, countInRange, tailInRange, TailNumbers}
 use Rattle.tail.specs.Single.{handed, singleStep, SingleStepFollows}
 use Rattle.tail.specs.Types.{LogPair, Message, Participant, Coordinator, Site, Release, Step, Tail, ParticipantFields}
 use Rattle.tail.proofs.Tabulate.{getD-tabulate, tabulate-list, every-at, every-all}

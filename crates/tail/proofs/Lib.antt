@@ -2,3 +2,4 @@ pub mod Tabulate
 pub mod TailRange
 pub mod SingleCases
 pub mod Follows
+pub mod Cases

@@ -1,5 +1,5 @@
 -- The single step by its cases. Assumes nothing.
-use mathlib.Core.Path.{_≡_, refl, sym, ap}
+use mathlib.Core.Path.{_≡_, refl}
 use mathlib.Core.Bool.{true, false}
 use Prim.Native.Nat.{ℕ}
 use Rattle.number.specs.Refusal.{accepted, outOfRange, notDue}

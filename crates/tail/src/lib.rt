@@ -16,9 +16,8 @@ use store::Store;
 ghost use mathlib.Core.Path.{_≡_};
 ghost use mathlib.Core.Bool.{true};
 ghost use Prim.Native.Nat.{_≤_, _<_};
-ghost use lib.ListN.{getD};
 ghost use Rattle.store.specs.Log.{places};
-ghost use Rattle.tail.specs.Tail.{tabulate, every, fieldsOf, tailOf, siteOf, pairOf, fieldsAt, releaseOf, messagesInRange, masksInRange, recordsInRange, fieldsZero, participantInRange, participantsInRange, partiesInRange, countInRange, callsInRange, tailInRange};
+ghost use Rattle.tail.specs.Tail.{tabulate, fieldsOf, tailOf, siteOf, pairOf, fieldsAt, releaseOf, messagesInRange, masksInRange, recordsInRange, fieldsZero, participantInRange, participantsInRange, partiesInRange, countInRange, callsInRange, tailInRange};
 
 // A participant's state, heard mask, and its log's first and last record.
 pub struct ParticipantFields {

@@ -9,4 +9,4 @@ called-spec =
     (tie.spec
     (λ c κs. search needs)
     (λ c κs. search needs)
-    (λ c. simp (c .with-log .ensures, c .before .before .with-call .ensures)))
+    (λ c. simp (c .with-log .ensures, c .before .counted .ensures)))

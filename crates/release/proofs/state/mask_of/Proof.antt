@@ -1,7 +1,7 @@
 -- `release::state::mask_of` meets its contract, case by case. Assumes nothing.
 use native.Mathlib.Omega.{arith}
 use Rattle.release.proofs.Places.{place-below}
-use borrow.Author.Tests.{lt-ltb, le-ltb}
+use borrow.Author.Tests.{lt-ltb}
 use borrow.Author.Needs.{needs}
 use Rattle.release.proofs.state.mask_of.Statement.{statement}
 use Rattle.release.proofs.state.mask_of.Tie as tie

@@ -2,10 +2,8 @@
 use mathlib.Core.Path.{_≡_, sym, ap}
 use native.Mathlib.Omega.{arith}
 use lib.ListN.{length, length-map, List·getD-eq-default}
-use lib.Seq.{set-out}
 use Rattle.rules.specs.State.{waiting}
 use Rattle.rules.specs.declared.Site.{Site}
-use borrow.Author.Tests.{le-ltb}
 use borrow.Author.Needs.{needs}
 use Rattle.release.proofs.state.participant_of.Statement.{statement}
 use Rattle.release.proofs.state.participant_of.Tie as tie

@@ -1,10 +1,9 @@
 -- `release::state::with_participant` meets its contract, case by case. Assumes nothing.
-use mathlib.Core.Path.{_≡_, sym, ap}
+use mathlib.Core.Path.{_≡_}
 use native.Mathlib.Omega.{arith}
-use lib.ListN.{length, length-map, List·getD-eq-default}
+use lib.ListN.{length, length-map}
 use lib.Seq.{set-out}
 use mathlib.Core.Path.{refl}
-use borrow.Author.Tests.{le-ltb}
 use borrow.Author.Needs.{needs}
 use Rattle.release.proofs.state.with_participant.Statement.{statement}
 use Rattle.release.proofs.state.with_participant.Tie as tie

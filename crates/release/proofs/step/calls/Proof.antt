@@ -1,7 +1,6 @@
 -- `release::step::calls` meets its contract, case by case. Assumes nothing.
 use native.Mathlib.Omega.{arith}
 use Rattle.release.proofs.Places.{no-log, coordinator-calls-at, participant-calls-at}
-use borrow.Author.Tests.{eq-eqb, ne-eqb}
 use borrow.Author.Needs.{needs}
 use Rattle.release.proofs.step.calls.Statement.{statement}
 use Rattle.release.proofs.step.calls.Tie as tie

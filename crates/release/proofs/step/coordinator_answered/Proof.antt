@@ -1,5 +1,4 @@
 -- `release::step::coordinator_answered` meets its contract, case by case. Assumes nothing.
-use mathlib.Core.Path.{sym, _∙_}
 use borrow.Author.Needs.{needs}
 use Rattle.release.proofs.step.coordinator_answered.Statement.{statement}
 use Rattle.release.proofs.step.coordinator_answered.Tie as tie

@@ -2,7 +2,6 @@
 use Prim.Native.Nat.{ℕ}
 use Rattle.release.proofs.Places.{at-place}
 use Rattle.rules.specs.Due.{messageDue}
-use borrow.Author.Tests.{ne-eqb}
 use borrow.Author.Needs.{needs}
 use Rattle.release.proofs.step.in_flight.Statement.{statement}
 use Rattle.release.proofs.step.in_flight.Tie as tie

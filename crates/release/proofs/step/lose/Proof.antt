@@ -1,5 +1,4 @@
 -- `release::step::lose` meets its contract, case by case. Assumes nothing.
-use native.Mathlib.Omega.{arith}
 use Rattle.release.proofs.Places.{lose-at}
 use mathlib.Core.Path.{sym, _∙_}
 use borrow.Author.Needs.{needs}

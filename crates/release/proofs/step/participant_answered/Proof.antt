@@ -1,6 +1,5 @@
 -- `release::step::participant_answered` meets its contract, case by case. Assumes nothing.
 use native.Mathlib.Numerals.{add-one}
-use mathlib.Core.Path.{sym, _∙_}
 use borrow.Author.Needs.{needs}
 use Rattle.release.proofs.step.participant_answered.Statement.{statement}
 use Rattle.release.proofs.step.participant_answered.Tie as tie

@@ -3,7 +3,6 @@ use Prim.Native.Nat.{ℕ}
 use Rattle.release.proofs.Places.{at-place}
 use Rattle.rules.specs.Step.{step}
 use Rattle.rules.specs.Types.{Step}
-use borrow.Author.Tests.{eq-eqb, ne-eqb}
 use borrow.Author.Needs.{needs}
 use Rattle.release.proofs.step.timeout.Statement.{statement}
 use Rattle.release.proofs.step.timeout.Tie as tie

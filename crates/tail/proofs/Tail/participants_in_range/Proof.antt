@@ -1,12 +1,10 @@
 -- `tail::Tail::participants_in_range` meets its contract, case by case. Assumes nothing.
-use mathlib.Core.Path.{_≡_, refl, sym, ap, _∙_}
+use mathlib.Core.Path.{_≡_, refl, sym, _∙_}
 use mathlib.Core.Bool.{true}
-use Prim.Native.Nat.{ℕ, _-_, _≤_, suc}
+use Prim.Native.Nat.{_-_, _≤_}
 use native.Mathlib.Omega.{arith}
-use lib.ListN.{length, getD}
 use borrow.Author.Needs.{needs}
-use Rattle.mask.specs.Mask.{within}
-use Rattle.tail.specs.Tail.{fieldsAt, participantInRange, countInRange, tabulate, every}
+use Rattle.tail.specs.Tail.{fieldsAt, participantInRange, every}
 use Rattle.tail.proofs.Tabulate.{every-next, every-done, every-fails}
 use Rattle.tail.proofs.Tail.participants_in_range.Statement.{statement}
 use Rattle.tail.proofs.Tail.participants_in_range.Tie as tie

@@ -7,7 +7,7 @@ use Rattle.rules.specs.Step.{step}
 use Rattle.schedule.specs.declared.Kind.{Kind}
 use Rattle.schedule.specs.Step.{isStep, ofKind}
 use Rattle.number.proofs.Laws.{and-right}
-use mathlib.Core.Path.{_≡_, sym, ap, _∙_}
+use mathlib.Core.Path.{sym, ap, _∙_}
 use mathlib.Core.Path.{sym, _∙_}
 use borrow.Author.Needs.{needs}
 use Rattle.tail.proofs.Tail.single_step.Statement.{statement}

@@ -1,10 +1,10 @@
 -- `tail::Tail::sites` meets its contract, case by case. Assumes nothing.
-use mathlib.Core.Path.{_≡_, refl, sym, ap, _∙_}
-use Prim.Native.Nat.{ℕ, _-_, _≤_, suc}
+use mathlib.Core.Path.{_≡_, refl}
+use Prim.Native.Nat.{_-_, _≤_}
 use native.Mathlib.Omega.{arith}
 use lib.ListN.{length, getD}
 use borrow.Author.Needs.{needs}
-use Rattle.tail.specs.Tail.{siteOf, pairOf, fieldsOf, tabulate, every}
+use Rattle.tail.specs.Tail.{siteOf}
 use Rattle.tail.proofs.Tabulate.{upTo, upTo-next, upTo-done}
 use Rattle.tail.proofs.Tail.sites.Statement.{statement}
 use Rattle.tail.proofs.Tail.sites.Tie as tie

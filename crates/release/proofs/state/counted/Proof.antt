@@ -1,18 +1,17 @@
--- `release::state::with_call` meets its contract, case by case. Assumes nothing.
-use mathlib.Core.Path.{_≡_, sym, ap}
+-- `release::state::counted` meets its contract, case by case. Assumes nothing.
+use mathlib.Core.Path.{_≡_}
 use native.Mathlib.Omega.{arith}
-use lib.ListN.{length, length-map, List·getD-eq-default}
+use lib.ListN.{length, length-map}
 use lib.Seq.{set-out}
 use mathlib.Core.Path.{refl}
 use lib.ListN.{getD}
 use Prim.Native.Nat.{_+_}
-use borrow.Author.Tests.{le-ltb}
 use borrow.Author.Needs.{needs}
-use Rattle.release.proofs.state.with_call.Statement.{statement}
-use Rattle.release.proofs.state.with_call.Tie as tie
+use Rattle.release.proofs.state.counted.Statement.{statement}
+use Rattle.release.proofs.state.counted.Tie as tie
 
-pub with-call-spec : {M : Type 1} → statement M
-with-call-spec =
+pub counted-spec : {M : Type 1} → statement M
+counted-spec =
     tie.close
     (tie.spec
     (λ c. search needs)

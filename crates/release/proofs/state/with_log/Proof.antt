@@ -1,0 +1,11 @@
+-- `release::state::with_log` meets its contract, case by case. Assumes nothing.
+use borrow.Author.Needs.{needs}
+use Rattle.release.proofs.state.with_log.Statement.{statement}
+use Rattle.release.proofs.state.with_log.Tie as tie
+
+pub with-log-spec : {M : Type 1} → statement M
+with-log-spec =
+    tie.close
+    (tie.spec
+    (λ c κs. search needs)
+    (λ c. simp (c .with-log .ensures)))
