@@ -5,6 +5,10 @@
 #include <stddef.h>
 #include <stdint.h>
 
+#ifdef __cplusplus
+extern "C" {
+#endif
+
 /* A participant's states. */
 #define CORNUS_WAITING 0          /* for the vote request */
 #define CORNUS_VOTING_YES 1       /* calls LogOnce(yes) on its own log */
@@ -59,5 +63,9 @@
  */
 uint32_t cornus_participant_step(uint32_t n, uint32_t own, uint32_t state, uint32_t heard, uint32_t event, uint32_t detail,
                                  uint32_t record, uint8_t *out, size_t out_len);
+
+#ifdef __cplusplus
+}
+#endif
 
 #endif
