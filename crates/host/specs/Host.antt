@@ -13,16 +13,16 @@ use Rattle.schedule.specs.Step.{numberInRange}
 use Rattle.host.specs.Types.{LogRecord, Call, Sent, Participant, Transition, NotDue, To, Event}
 use Rattle.host.specs.Event.{eventOf, numbersInRange}
 
--- An answer counts only where its call is pending
+-- An answer counts only where its call is pending; `own` and `j` are places
 abbrev pub answers : Call → Transition → Transition
 answers Call.None t = NotDue
 answers (Call.LogOnce r) t = t
 answers (Call.Log r) t = t
 
--- Events 1 and 2 are always due. `own` and `j` are places
 abbrev pub answered : ℕ → ℕ → Participant → ℕ → LogRecord → Transition
 answered n own p j r = answers (Participant.pending own p j) (Participant.onAnswer n own p j r)
 
+-- what an event leads to. Events 1 and 2 are always due
 abbrev pub onEvent : ℕ → ℕ → Participant → Event → Transition
 onEvent n own p (Event.Request vote) = Participant.to (Participant.onRequest vote p)
 onEvent n own p (Event.Decided d) = Participant.to (Participant.onDecision d p)
@@ -46,7 +46,7 @@ byteCount = 3
 abbrev pub bytesOf : Participant → Sent → List ℕ
 bytesOf p m = Participant.stateNumber p ∷ Participant.heardOf p ∷ sentNumber m ∷ []
 
--- its heard mask fits a byte
+-- the next heard mask fits a byte, as it does for all numbers in range (proofs/Laws.antt)
 abbrev pub HeardFits : Transition → Type 0
 HeardFits NotDue = Unit {0}
 HeardFits (To p m) = Participant.heardOf p < 256
