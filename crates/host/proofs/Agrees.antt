@@ -6,8 +6,8 @@ use native.Mathlib.Omega.{arith}
 use borrow.Author.Tests.{le-leb}
 use Rattle.number.proofs.Laws.{and-true, are-numbers, are-numbers3}
 use Rattle.store.specs.Log.{log, perform, places}
-use Rattle.party.specs.Participant
-use Rattle.party.proofs.Numbers.{participant-numbers}
+use Rattle.participant.specs.Participant
+use Rattle.participant.proofs.Numbers.{participant-numbers}
 use Rattle.rules.specs.State.{participantOf, logOf}
 use Rattle.rules.specs.Step.{participantAnswered, participantCalls, step}
 use Rattle.host.specs.Types.{LogPair, Call, Logged, Performed, Participant, Transition, Release, Step, Event}

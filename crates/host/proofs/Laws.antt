@@ -6,10 +6,10 @@ use native.Mathlib.Omega.{arith}
 use lib.Pow.{pow-mono}
 use Rattle.number.proofs.Laws.{and-left, and-right}
 use Rattle.store.specs.Log.{places}
-use Rattle.party.specs.Message.{sentNumber}
-use Rattle.party.specs.Participant
-use Rattle.party.proofs.Cases.{crash-cases, restart-cases}
-use Rattle.party.proofs.Ranges.{ParticipantInRange, participant-held, Guard, Guarded, pending-guarded, ToInRange, request-range, decision-range, timeout-range, answer-range}
+use Rattle.message.specs.Message.{sentNumber}
+use Rattle.participant.specs.Participant
+use Rattle.rules.proofs.Cases.{crash-cases, restart-cases}
+use Rattle.rules.proofs.Ranges.{ParticipantInRange, participant-held, Guard, Guarded, pending-guarded, ToInRange, request-range, decision-range, timeout-range, answer-range}
 use Rattle.schedule.specs.Step.{numberInRange}
 use Rattle.schedule.proofs.Numbers.{between}
 use Rattle.host.specs.Types.{Call, Message, Sent, Participant, Transition, NotDue, To, Event}

@@ -6,7 +6,7 @@ use mathlib.Core.List.{List}
 use Prim.Native.Nat.{ℕ, suc, _≤_, _<_}
 use Rattle.mask.specs.Mask.{has}
 use Rattle.store.specs.Log.{perform, places}
-use Rattle.party.specs.Participant
+use Rattle.participant.specs.Participant
 use Rattle.rules.specs.State.{participantOf, logOf, inFlight}
 use Rattle.rules.specs.Step.{drop, participantGoes, participantAnswered, step}
 use Rattle.host.specs.Types.{Logged, Performed, Message, Decision, Transition, Release, Step, Event}

@@ -7,8 +7,8 @@ use lib.ListN.{length}
 use lib.Seq.{sets}
 use Rattle.number.specs.Refusal.{accepted, outOfRange, tooShort, notDue}
 use Rattle.store.specs.Log.{places}
-use Rattle.party.specs.Message.{sentNumber}
-use Rattle.party.specs.Participant
+use Rattle.message.specs.Message.{sentNumber}
+use Rattle.participant.specs.Participant
 use Rattle.schedule.specs.Step.{numberInRange}
 use Rattle.host.specs.Types.{LogRecord, Call, Sent, Participant, Transition, NotDue, To, Event}
 use Rattle.host.specs.Event.{eventOf, numbersInRange}

@@ -1,11 +1,11 @@
 // The host's entry: one participant, stepped from C on document 01's numbers. `own` is a participant's number; `place` is that less one.
+use message::Decision;
+use message::Sent;
 use number::NOT_DUE;
 use number::OUT_OF_RANGE;
 use number::TOO_SHORT;
-use party::Decision;
-use party::Sent;
-use party::participant::Participant;
-use party::participant::Transition;
+use participant::Participant;
+use participant::Transition;
 use schedule::between;
 use store::Call;
 use store::LOGS;
@@ -14,7 +14,7 @@ ghost use mathlib.Core.Path.{_≡_};
 ghost use mathlib.Core.Bool.{true};
 ghost use Prim.Native.Nat.{_-_, _≤_, _<_};
 ghost use lib.ListN.{length};
-ghost use Rattle.party.specs.Participant.{to};
+ghost use Rattle.participant.specs.Participant.{to};
 ghost use Rattle.host.specs.Event.{voteNumber, decisionNumber, decisionOf, eventNumber, detailNumber, answerNumber, eventOf, isEvent, isWritten, eventInRange, numbersInRange};
 ghost use Rattle.host.specs.Host.{answers, answered, onEvent, hostInRange, HeardFits, returned, left, hostReturns, hostLeaves};
 

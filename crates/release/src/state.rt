@@ -1,8 +1,8 @@
 // The parts of a release: reading one, and the release with one changed. `i` and `j` are places, which count from 0. A place that no release
 // has reads as fresh, and what is put there is left out.
-use party::Message;
-use party::coordinator::Coordinator;
-use party::participant::Participant;
+use coordinator::Coordinator;
+use message::Message;
+use participant::Participant;
 use rules::PARTIES;
 use rules::Release;
 use rules::Site;

@@ -7,11 +7,11 @@ use super::state::participant_of;
 use super::state::with_coordinator;
 use super::state::with_mask;
 use super::state::with_participant;
-use party::Decision;
-use party::Message;
-use party::Sent;
-use party::coordinator::Coordinator;
-use party::participant::Participant;
+use coordinator::Coordinator;
+use message::Decision;
+use message::Message;
+use message::Sent;
+use participant::Participant;
 use rules::Outcome;
 use rules::Release;
 use rules::Report;
@@ -170,13 +170,13 @@ fn participant_to(r: Release, i: u32, p: Participant, s: Sent) -> Report
     }
 }
 
-fn participant_goes(r: Release, i: u32, t: party::participant::Transition) -> Report
+fn participant_goes(r: Release, i: u32, t: participant::Transition) -> Report
     requires { ⌜ i < 32 ⌝ }
     ensures { λ report. ⌜ report ≡ participantGoes i t r ⌝ }
 {
     match t {
-        party::participant::Transition::NotDue => idle(r),
-        party::participant::Transition::To(p, s) => participant_to(r, i, p, s),
+        participant::Transition::NotDue => idle(r),
+        participant::Transition::To(p, s) => participant_to(r, i, p, s),
     }
 }
 
@@ -194,13 +194,13 @@ fn coordinator_to(r: Release, c: Coordinator, s: Sent) -> Report
     }
 }
 
-fn coordinator_goes(r: Release, t: party::coordinator::Transition) -> Report
+fn coordinator_goes(r: Release, t: coordinator::Transition) -> Report
     requires { ⌜ r .n ≤ 32 ⌝ }
     ensures { λ report. ⌜ report ≡ coordinatorGoes t r ⌝ }
 {
     match t {
-        party::coordinator::Transition::NotDue => idle(r),
-        party::coordinator::Transition::To(c, s) => coordinator_to(r, c, s),
+        coordinator::Transition::NotDue => idle(r),
+        coordinator::Transition::To(c, s) => coordinator_to(r, c, s),
     }
 }
 
@@ -227,14 +227,14 @@ fn participant_answered(
     i: u32,
     j: u32,
     x: Logged,
-    t: party::participant::Transition,
+    t: participant::Transition,
 ) -> Report
     requires { ⌜ (i < 32) × (getD (r .calls) (i + 1) 0 < countLimit) ⌝ }
     ensures { λ report. ⌜ report ≡ participantAnswered heard i j x t r ⌝ }
 {
     match t {
-        party::participant::Transition::NotDue => idle(r),
-        party::participant::Transition::To(p, s) => {
+        participant::Transition::NotDue => idle(r),
+        participant::Transition::To(p, s) => {
             let log = x.log;
             let next = called(r, i + 1, j, log);
             if heard {
@@ -274,14 +274,14 @@ fn coordinator_answered(
     heard: bool,
     j: u32,
     x: Logged,
-    t: party::coordinator::Transition,
+    t: coordinator::Transition,
 ) -> Report
     requires { ⌜ (r .n ≤ 32) × (getD (r .calls) 0 0 < countLimit) ⌝ }
     ensures { λ report. ⌜ report ≡ coordinatorAnswered heard j x t r ⌝ }
 {
     match t {
-        party::coordinator::Transition::NotDue => idle(r),
-        party::coordinator::Transition::To(c, s) => {
+        coordinator::Transition::NotDue => idle(r),
+        coordinator::Transition::To(c, s) => {
             let log = x.log;
             let next = called(r, 0, j, log);
             if heard {

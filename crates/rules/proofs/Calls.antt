@@ -9,10 +9,10 @@ use borrow.Author.Tests.{eqb-true}
 use Rattle.mask.specs.Mask.{has}
 use Rattle.mask.proofs.Laws.{has-insert-neither}
 use Rattle.store.specs.Log.{logOnce, perform}
-use Rattle.party.specs.Participant
-use Rattle.party.specs.Coordinator
-pub use Rattle.party.proofs.Ranges.{Guard}
-use Rattle.party.proofs.Cases.{cond-cases}
+use Rattle.participant.specs.Participant
+use Rattle.coordinator.specs.Coordinator
+use Rattle.rules.proofs.Ranges.{Guard}
+use Rattle.rules.proofs.Cases.{cond-cases}
 use Rattle.rules.specs.Types.{LogRecord, None, Yes, Abort, Commit, LogPair, Call, Performed, Participant, Waiting, VotingYes, Closing, Uncertain, Terminating, RecordingCommit, RecordingAbort, DoneCommit, DoneAbort, Down, Coordinator}
 use Rattle.rules.proofs.FirstRecords.{Claim, nothing, voted-yes, every-yes, some-abort, Stated, keep-refl}
 use Rattle.rules.proofs.Invariant.{Ends, Allowed, Knows}

@@ -3,8 +3,8 @@ use mathlib.Core.Path.{_≡_, refl}
 use mathlib.Core.Bool.{Bool, true, false, cond}
 use Prim.Native.Nat.{ℕ, zero, suc}
 use Rattle.store.specs.Log.{perform}
-use Rattle.party.specs.Participant
-use Rattle.party.specs.Coordinator
+use Rattle.participant.specs.Participant
+use Rattle.coordinator.specs.Coordinator
 use Rattle.rules.specs.State.{participantOf, logOf, inFlight}
 use Rattle.rules.specs.Step.{called, drop, idle, moved, participantTo, participantGoes, coordinatorTo, coordinatorGoes, receive, participantAnswered, participantPerformed, participantCalls, coordinatorAnswered, coordinatorPerformed, coordinatorCalls, step}
 use Rattle.rules.specs.Types.{Logged, Performed, Participant, Sent, Transition, NotDue, To, Coordinator, CoordinatorTransition, Message, Step, Start, Deliver, Copy, Lose, Timeout, Crash, Restart, Release, Report}

@@ -9,7 +9,7 @@ use lib.Dec.{eqb}
 use lib.ListN.{length, getD, set, length-set}
 use lib.Seq.{getD-set-same, getD-set-other}
 use borrow.Author.Tests.{eq-eqb, ne-eqb}
-use Rattle.party.specs.Coordinator
+use Rattle.coordinator.specs.Coordinator
 use Rattle.rules.specs.Report.{moves}
 use Rattle.rules.specs.Step.{called, drop, moved, participantTo, coordinatorTo, coordinatorGoes, receive, step}
 use Rattle.rules.specs.Run.{after, isStoreCallOf, callsMade, CallsCounted}

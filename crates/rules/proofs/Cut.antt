@@ -9,8 +9,8 @@ use native.Mathlib.Nat.{le-trans}
 use native.Mathlib.Decide.{ℕ-discrete}
 use lib.ListN.{length, length-set}
 use lib.Seq.{getD-set-same, getD-set-other}
-use Rattle.party.specs.Participant
-use Rattle.party.specs.Coordinator
+use Rattle.participant.specs.Participant
+use Rattle.coordinator.specs.Coordinator
 use Rattle.rules.specs.State.{participantOf, waiting}
 use Rattle.rules.specs.Step.{participantTo, participantGoes, coordinatorTo, coordinatorGoes, step}
 use Rattle.rules.specs.Run.{after}

@@ -5,9 +5,9 @@ use mathlib.Core.List.{[], _∷_}
 use Prim.Native.Nat.{ℕ, zero, suc}
 use Rattle.mask.specs.Mask.{has, insert}
 use Rattle.store.specs.Log.{perform}
-use Rattle.party.specs.Participant
-use Rattle.party.specs.Coordinator
-use Rattle.party.proofs.Cases.{replyYes-cases, replyAbort-cases, enters-cases}
+use Rattle.participant.specs.Participant
+use Rattle.coordinator.specs.Coordinator
+use Rattle.rules.proofs.Cases.{replyYes-cases, replyAbort-cases, enters-cases}
 use Rattle.rules.specs.State.{participantOf, logOf, inFlight}
 use Rattle.rules.specs.Report.{moves}
 use Rattle.rules.specs.Step.{called, drop, idle, moved, participantGoes, coordinatorGoes, receive, participantAnswered, participantPerformed, participantCalls, coordinatorAnswered, coordinatorPerformed, coordinatorCalls, calls}

@@ -1,3 +1,5 @@
+pub mod Cases
+pub mod Ranges
 pub mod FirstRecords
 pub mod Bounds
 pub mod Causes

@@ -11,8 +11,8 @@ use lib.ListN.{length}
 use lib.Seq.{getD-set-same}
 use borrow.Author.Tests.{ne-eqb}
 use Rattle.mask.specs.Mask.{has}
-use Rattle.party.specs.Participant
-use Rattle.party.specs.Coordinator
+use Rattle.participant.specs.Participant
+use Rattle.coordinator.specs.Coordinator
 use Rattle.rules.specs.State.{participantOf, firstOf, waiting}
 use Rattle.rules.specs.Report.{moves}
 use Rattle.rules.specs.Step.{called, drop, reply, participantTo, coordinatorTo, coordinatorGoes, receive, step}
@@ -22,7 +22,7 @@ use Rattle.rules.specs.Types.{Logged, Participant, Terminating, Site, Se
 use Rattle.rules.proofs.FirstRecords.{true-false}
 use Rattle.rules.proofs.Invariant.{Inv}
 use Rattle.rules.proofs.Updates.{set-all, Good, drop-inv}
-use Rattle.rules.proofs.Calls.{Guard}
+use Rattle.rules.proofs.Ranges.{Guard}
 use Rattle.rules.proofs.Bounds.{Bounds, bounds}
 use Rattle.rules.proofs.Causes.{ParticipantCall, Cause, idles, starts, delivers, copies, loses, answered as call-answered, lost, coordinator-answered, coordinator-lost, times-out, crashes, restarts, coordinator-times-out, coordinator-crashes, coordinator-restarts, cause}
 use Rattle.rules.proofs.Safety.{call-guard, step-good}

@@ -7,12 +7,12 @@ use native.Mathlib.Nat.{le-refl}
 use lib.Dec.{eqb}
 use Rattle.mask.specs.Mask.{has, insert, full, size}
 use Rattle.mask.proofs.Laws.{size-le, size-insert, bit-of-has, not-member}
-use Rattle.party.specs.Participant
-use Rattle.party.proofs.Cases.{cond-cases, answer-cases, request-cases, decision-cases, timeout-cases, restart-cases}
+use Rattle.participant.specs.Participant
+use Rattle.rules.proofs.Cases.{cond-cases, answer-cases, request-cases, decision-cases, timeout-cases, restart-cases}
 use Rattle.rules.specs.Types.{LogRecord, Decision, Participant, Waiting, VotingYes, Closing, Uncertain, Terminating, RecordingCommit, RecordingAbort, DoneCommit, DoneAbort, Down, Transition, NotDue, To}
 use Rattle.rules.proofs.FirstRecords.{Termination}
 use Rattle.rules.proofs.Invariant.{Knows}
-use Rattle.rules.proofs.Calls.{Guard}
+use Rattle.rules.proofs.Ranges.{Guard}
 
 -- 0 just where a decision is held, n + 1 at most while up
 abbrev pub rank : ℕ → Participant → ℕ

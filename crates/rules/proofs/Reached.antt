@@ -10,10 +10,10 @@ use lib.ListN.{getD}
 use Rattle.mask.specs.Mask.{has, insert, remove, full}
 use Rattle.mask.proofs.Laws.{lt-within, within-lt, insert-lt, remove-le, full-lt}
 use Rattle.store.specs.Log.{allowed, empty}
-use Rattle.party.specs.Participant
-use Rattle.party.specs.Coordinator
-use Rattle.party.proofs.Ranges.{ParticipantInRange, CoordinatorInRange, ToInRange, CoordinatorToInRange, participant-tested, coordinator-tested, request-range, decision-range, timeout-range, answer-range, none-heard, replyYes-range, replyAbort-range, coordinator-answer-range}
-use Rattle.party.proofs.Cases.{crash-cases, restart-cases, start-cases, coordinator-timeout-cases, coordinator-crash-cases, coordinator-restart-cases}
+use Rattle.participant.specs.Participant
+use Rattle.coordinator.specs.Coordinator
+use Rattle.rules.proofs.Ranges.{ParticipantInRange, CoordinatorInRange, ToInRange, CoordinatorToInRange, participant-tested, coordinator-tested, request-range, decision-range, timeout-range, answer-range, none-heard, replyYes-range, replyAbort-range, coordinator-answer-range}
+use Rattle.rules.proofs.Cases.{crash-cases, restart-cases, start-cases, coordinator-timeout-cases, coordinator-crash-cases, coordinator-restart-cases}
 use Rattle.rules.specs.State.{participantOf, participantAt, logOf, logAt, firstOf, lastOf, maskAt, maskOf, waiting, fresh}
 use Rattle.rules.specs.Step.{called, send, sendAll, drop, withMask, withParticipant, participantTo, withCoordinator, coordinatorTo, coordinatorGoes, receive, step}
 use Rattle.rules.specs.Run.{AllInRange, after}

@@ -9,7 +9,7 @@ use borrow.Author.Tests.{eq-eqb}
 use Rattle.mask.specs.Mask.{insert}
 use Rattle.mask.proofs.Laws.{size-insert, size-le, bit-of-has}
 use Rattle.store.specs.Log.{perform}
-use Rattle.party.specs.Participant
+use Rattle.participant.specs.Participant
 use Rattle.rules.specs.State.{participantOf, logOf, firstOf, lastOf}
 use Rattle.rules.specs.Report.{moves}
 use Rattle.rules.specs.Step.{called, participantAnswered, participantPerformed, participantCalls}

@@ -3,7 +3,7 @@ use mathlib.Core.Path.{_≡_, refl, _∙_}
 use mathlib.Core.List.{List, [], _∷_}
 use Prim.Native.Nat.{ℕ, suc}
 use lib.ListN.{length, length-set}
-use Rattle.party.specs.Coordinator
+use Rattle.coordinator.specs.Coordinator
 use Rattle.rules.specs.Step.{called, drop, participantTo, coordinatorTo, coordinatorGoes, receive, step}
 use Rattle.rules.specs.Run.{after}
 use Rattle.rules.specs.Types.{LogPair, Participant, Sent, Coordinator, CoordinatorTransition, Message, Step, Release, Report}

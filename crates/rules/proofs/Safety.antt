@@ -5,8 +5,8 @@ use Prim.Native.Nat.{ℕ, suc, _<_}
 use Rattle.mask.specs.Mask.{has}
 use Rattle.store.specs.Log.{perform}
 use Rattle.store.proofs.Laws.{perform-answers}
-use Rattle.party.specs.Participant
-use Rattle.party.specs.Coordinator
+use Rattle.participant.specs.Participant
+use Rattle.coordinator.specs.Coordinator
 use Rattle.rules.specs.State.{participantOf, logOf, firstOf, lastOf}
 use Rattle.rules.specs.Step.{called, drop, moved, participantTo, participantGoes, coordinatorTo, coordinatorGoes, receive, step}
 use Rattle.schedule.specs.Step.{inRange}
@@ -14,7 +14,8 @@ use Rattle.rules.specs.Types.{LogRecord, LogPair, Call, Logged, Performe
 use Rattle.rules.proofs.FirstRecords.{still, Keeps, keeps-refl, keeps-trans}
 use Rattle.rules.proofs.Invariant.{Tells, Inv, participantClaim, coordinatorClaim}
 use Rattle.rules.proofs.Updates.{drop-inv, Change, called-at, called-keeps, called-inv, Good, idle-good, participant-good, coordinator-good}
-use Rattle.rules.proofs.Calls.{Says, says, Pends, Guard, CallFits, perform-fits, pending-fits, coordinator-pending-fits}
+use Rattle.rules.proofs.Ranges.{Guard}
+use Rattle.rules.proofs.Calls.{Says, says, Pends, CallFits, perform-fits, pending-fits, coordinator-pending-fits}
 use Rattle.rules.proofs.Transitions.{Stands, Fits, CoordinatorFits, request-stands, decision-stands, timeout-fits, crash-fits, restart-fits, answer-fits, start-fits, replyYes-fits, replyAbort-fits, coordinator-timeout-fits, coordinator-crash-fits, coordinator-restart-fits, coordinator-answer-fits}
 use Rattle.rules.proofs.Bounds.{Bounds, bounds}
 use Rattle.rules.proofs.Causes.{Cause, idles, starts, delivers, copies, loses, answered, lost, coordinator-answered, coordinator-lost, times-out, crashes, restarts, coordinator-times-out, coordinator-crashes, coordinator-restarts, cause}

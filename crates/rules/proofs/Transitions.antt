@@ -7,15 +7,16 @@ use lib.Dec.{eqb}
 use borrow.Author.Tests.{eqb-true}
 use Rattle.mask.specs.Mask.{has, insert, full}
 use Rattle.mask.proofs.Laws.{has-zero, not-inserted, has-insert-other}
-use Rattle.party.specs.Participant
-use Rattle.party.specs.Coordinator
-use Rattle.party.proofs.Cases.{cond-cases, answer-cases, request-cases, decision-cases, timeout-cases, crash-cases, restart-cases, start-cases, replyYes-cases, replyAbort-cases, coordinator-timeout-cases, coordinator-answer-cases, coordinator-crash-cases, coordinator-restart-cases, enters-cases}
+use Rattle.participant.specs.Participant
+use Rattle.coordinator.specs.Coordinator
+use Rattle.rules.proofs.Cases.{cond-cases, answer-cases, request-cases, decision-cases, timeout-cases, crash-cases, restart-cases, start-cases, replyYes-cases, replyAbort-cases, coordinator-timeout-cases, coordinator-answer-cases, coordinator-crash-cases, coordinator-restart-cases, enters-cases}
 use Rattle.rules.specs.Demand.{EveryYes, SomeAbort}
 use Rattle.rules.specs.Types.{LogRecord, None, Yes, Abort, Commit, Decision, Participant, VotingYes, Closing, Terminating, RecordingCommit, Transition, NotDue, To, Coordinator, CoordinatorTransition}
 use Rattle.rules.proofs.FirstRecords.{Heard, heard-none, heard-insert, heard-full}
 use Rattle.rules.proofs.Invariant.{Knows, Ends, CoordinatorKnows}
 use Rattle.rules.proofs.Updates.{SentFits, BroadcastFits}
-use Rattle.rules.proofs.Calls.{Says, Guard}
+use Rattle.rules.proofs.Ranges.{Guard}
+use Rattle.rules.proofs.Calls.{Says}
 
 -- participant i may be in state p, where e is the last record of its log
 pub record Stands (n : ℕ) (F : ℕ → LogRecord) (i : ℕ) (e : LogRecord) (p : Participant) : Type 0 where

@@ -10,9 +10,9 @@ use lib.Dec.{eqb}
 use Rattle.mask.specs.Mask.{has, full, insert}
 use Rattle.mask.proofs.Laws.{has-full}
 use Rattle.store.specs.Log.{empty, perform}
-use Rattle.party.specs.Participant
-use Rattle.party.specs.Coordinator
-use Rattle.party.proofs.Cases.{cond-cases, answer-cases, request-cases, decision-cases, crash-cases, start-cases, replyYes-cases, replyAbort-cases, coordinator-crash-cases, enters-cases}
+use Rattle.participant.specs.Participant
+use Rattle.coordinator.specs.Coordinator
+use Rattle.rules.proofs.Cases.{cond-cases, answer-cases, request-cases, decision-cases, crash-cases, start-cases, replyYes-cases, replyAbort-cases, coordinator-crash-cases, enters-cases}
 use Rattle.rules.specs.State.{participantOf, participantAt, logOf, logAt, firstOf, waiting, fresh}
 use Rattle.rules.specs.Report.{moves}
 use Rattle.rules.specs.Step.{called, drop, withParticipant, participantTo, coordinatorTo, coordinatorGoes, receive, step}

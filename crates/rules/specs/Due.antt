@@ -6,8 +6,8 @@ use mathlib.Core.List.{List, [], _∷_}
 use Prim.Native.Nat.{ℕ, zero, suc}
 use lib.Dec.{eqb}
 use Rattle.store.specs.Log.{perform}
-use Rattle.party.specs.Participant
-use Rattle.party.specs.Coordinator
+use Rattle.participant.specs.Participant
+use Rattle.coordinator.specs.Coordinator
 use Rattle.rules.specs.State.{participantOf, logOf, inFlight}
 use Rattle.rules.specs.Step.{isDue}
 use Rattle.rules.specs.Types.{LogRecord, None, Yes, Abort, Commit, Performed, Message, Participant, Waiting, VotingYes, Uncertain, Terminating, RecordingCommit, RecordingAbort, Down, Coordinator, Release, Step, Start, Deliver, Copy, Lose, Timeout, Crash, Restart}

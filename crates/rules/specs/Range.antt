@@ -8,8 +8,8 @@ use Prim.Native.Nat.{ℕ, _≤_, _<_}
 use lib.ListN.{getD}
 use Rattle.mask.specs.Mask.{within}
 use Rattle.store.specs.Log.{empty, isAllowed}
-use Rattle.party.specs.Participant
-use Rattle.party.specs.Coordinator
+use Rattle.participant.specs.Participant
+use Rattle.coordinator.specs.Coordinator
 use Rattle.rules.specs.State.{participantOf, logOf, firstOf, lastOf, maskOf, fresh}
 use Rattle.rules.specs.Run.{after, AllInRange}
 use Rattle.rules.specs.Types.{None, Abort, Commit, Message, Waiting, Release, Step}

@@ -6,7 +6,7 @@ use Prim.Native.Nat.{ℕ, suc, _-_}
 use lib.ListN.{getD, replicate}
 use Rattle.mask.specs.Mask.{has}
 use Rattle.store.specs.Log.{empty}
-use Rattle.party.specs.Message.{typeNumber}
+use Rattle.message.specs.Message.{typeNumber}
 use Rattle.rules.specs.Types.{LogRecord, LogPair, Message, Participant, Waiting, Coordinator, Site, Release}
 
 -- the participant at place i

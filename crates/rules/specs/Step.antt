@@ -5,8 +5,8 @@ use Prim.Native.Nat.{ℕ, zero, suc, _+_}
 use lib.ListN.{getD, set}
 use Rattle.mask.specs.Mask.{has, insert, remove, full}
 use Rattle.store.specs.Log.{perform}
-use Rattle.party.specs.Participant
-use Rattle.party.specs.Coordinator
+use Rattle.participant.specs.Participant
+use Rattle.coordinator.specs.Coordinator
 use Rattle.rules.specs.State.{participantOf, logOf, messagePlace, maskOf, inFlight}
 use Rattle.rules.specs.Report.{moves, known, coordinatorKnown, learnt}
 use Rattle.rules.specs.Types.{LogPair, Logged, Performed, Message, Sent, Decision, Participant, Transition, NotDue, To, Coordinator, CoordinatorTransition, Release, Step, Start, Deliver, Copy, Lose, Timeout, Crash, Restart, Outcome, Report}

@@ -6,15 +6,15 @@ pub use Rattle.store.specs.declared.Store.{Store}
 pub use Rattle.store.specs.declared.Call.{Call}
 pub use Rattle.store.specs.declared.Logged.{Logged}
 pub use Rattle.store.specs.declared.Performed.{Performed}
-pub use Rattle.party.specs.declared.Message.{Message}
-pub use Rattle.party.specs.declared.Sent.{Sent}
-pub use Rattle.party.specs.declared.Decision.{Decision}
-pub use Rattle.party.specs.declared.participant.Participant.{Participant}
-pub use Rattle.party.specs.declared.participant.Participant.the-variants.{Waiting, VotingYes, Closing, Uncertain, Terminating, RecordingCommit, RecordingAbort, DoneCommit, DoneAbort, Down}
-pub use Rattle.party.specs.declared.participant.Transition.{Transition}
-pub use Rattle.party.specs.declared.participant.Transition.the-variants.{NotDue, To}
-pub use Rattle.party.specs.declared.coordinator.Coordinator.{Coordinator}
-pub use Rattle.party.specs.declared.coordinator.Transition.{Transition as CoordinatorTransition}
+pub use Rattle.message.specs.declared.Message.{Message}
+pub use Rattle.message.specs.declared.Sent.{Sent}
+pub use Rattle.message.specs.declared.Decision.{Decision}
+pub use Rattle.participant.specs.declared.Participant.{Participant}
+pub use Rattle.participant.specs.declared.Participant.the-variants.{Waiting, VotingYes, Closing, Uncertain, Terminating, RecordingCommit, RecordingAbort, DoneCommit, DoneAbort, Down}
+pub use Rattle.participant.specs.declared.Transition.{Transition}
+pub use Rattle.participant.specs.declared.Transition.the-variants.{NotDue, To}
+pub use Rattle.coordinator.specs.declared.Coordinator.{Coordinator}
+pub use Rattle.coordinator.specs.declared.Transition.{Transition as CoordinatorTransition}
 pub use Rattle.rules.specs.declared.Site.{Site}
 pub use Rattle.rules.specs.declared.Release.{Release}
 pub use Rattle.schedule.specs.declared.Step.{Step}

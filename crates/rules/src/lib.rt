@@ -1,7 +1,7 @@
 // What the rules of one release speak of: its parties, their logs and the messages in flight, and what a step reports. The rules stand in
 // specs/, demand 3 among them.
-use party::coordinator::Coordinator;
-use party::participant::Participant;
+use coordinator::Coordinator;
+use participant::Participant;
 use store::LOGS;
 use store::Store;
 

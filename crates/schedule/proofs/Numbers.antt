@@ -6,7 +6,7 @@ use lib.Dec.{leb}
 use borrow.Author.Tests.{leb-true}
 use Rattle.number.specs.Numbering.{Inverse, Inverse3}
 use Rattle.number.proofs.Laws.{and-left, and-right, inverse, inverse3}
-use Rattle.party.proofs.Numbers.{message-numbers}
+use Rattle.message.proofs.Numbers.{message-numbers}
 use Rattle.schedule.specs.Types.{Kind, Step}
 use Rattle.schedule.specs.Kind.{kindNumber, kindOf}
 use Rattle.schedule.specs.Step.{stepNumber, firstNumber, secondNumber, stepOf, numberInRange}

@@ -3,7 +3,7 @@ use mathlib.Core.Bool.{Bool, true, _&&_}
 use Prim.Native.Nat.{ℕ}
 use lib.Dec.{leb}
 use Rattle.number.specs.Numbering.{areNumbers3}
-use Rattle.party.specs.Message.{typeNumber, messageOf}
+use Rattle.message.specs.Message.{typeNumber, messageOf}
 use Rattle.schedule.specs.Types.{Kind, Step}
 use Rattle.schedule.specs.Kind.{kindNumber, kindOf}
 

@@ -1,5 +1,5 @@
 // What a schedule is made of: kinds, and steps with their numbers.
-use party::Message;
+use message::Message;
 ghost use mathlib.Core.Path.{_≡_};
 ghost use Rattle.schedule.specs.Kind.{kindNumber, kindOf};
 ghost use Rattle.schedule.specs.Step.{stepKind, firstNumber, secondNumber, ofKind, isStep, numberInRange, inRange, numbersInRange};

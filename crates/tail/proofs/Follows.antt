@@ -11,9 +11,10 @@ use Rattle.number.proofs.Laws.{and-left, and-right, and-true, is-number, are-nu
 use Rattle.mask.specs.Mask.{within}
 use Rattle.store.specs.Log.{recordNumber, recordOf, isRecord, isAllowed, empty, places}
 use Rattle.store.proofs.Numbers.{record-numbers}
-use Rattle.party.specs.Participant
-use Rattle.party.specs.Coordinator
-use Rattle.party.proofs.Numbers.{participant-numbers, coordinator-numbers}
+use Rattle.participant.specs.Participant
+use Rattle.coordinator.specs.Coordinator
+use Rattle.participant.proofs.Numbers.{participant-numbers}
+use Rattle.coordinator.proofs.Numbers.{coordinator-numbers}
 use Rattle.schedule.specs.Step.{stepNumber, firstNumber, secondNumber, stepOf, inRange, numbersInRange}
 use Rattle.schedule.proofs.Numbers.{step-numbers}
 use Rattle.rules.specs.State.{participantOf, logOf, firstOf, lastOf, waiting, fresh}

@@ -7,8 +7,8 @@ use lib.Dec.{eqb, leb, ltb}
 use lib.ListN.{length, getD}
 use Rattle.mask.specs.Mask.{within}
 use Rattle.store.specs.Log.{recordNumber, recordOf, isRecord, isAllowed, places}
-use Rattle.party.specs.Participant
-use Rattle.party.specs.Coordinator
+use Rattle.participant.specs.Participant
+use Rattle.coordinator.specs.Coordinator
 use Rattle.schedule.specs.Step.{numberInRange}
 use Rattle.rules.specs.State.{participantOf, firstOf, lastOf, types}
 use Rattle.rules.specs.Run.{countLimit}

@@ -1,8 +1,8 @@
 -- The declared types of the tail, and those of the layers below that its fields come from.
 pub use Rattle.store.specs.declared.LogPair.{LogPair}
-pub use Rattle.party.specs.declared.Message.{Message}
-pub use Rattle.party.specs.declared.participant.Participant.{Participant}
-pub use Rattle.party.specs.declared.coordinator.Coordinator.{Coordinator}
+pub use Rattle.message.specs.declared.Message.{Message}
+pub use Rattle.participant.specs.declared.Participant.{Participant}
+pub use Rattle.coordinator.specs.declared.Coordinator.{Coordinator}
 pub use Rattle.schedule.specs.declared.Step.{Step}
 pub use Rattle.rules.specs.declared.Site.{Site}
 pub use Rattle.rules.specs.declared.Release.{Release}

@@ -1,8 +1,8 @@
 // The fields of the tail: a release as document 01's numbers, and back.
 pub mod single;
 
-use party::coordinator::Coordinator;
-use party::participant::Participant;
+use coordinator::Coordinator;
+use participant::Participant;
 use release::state::log_of;
 use release::state::participant_of;
 use rules::PARTIES;

@@ -1,4 +1,0 @@
-pub mod Types
-pub mod Message
-pub mod Participant
-pub mod Coordinator
