@@ -18,7 +18,8 @@ ghost use Rattle.participant.specs.Participant.{to};
 ghost use Rattle.host.specs.Event.{voteNumber, decisionNumber, decisionOf, eventNumber, detailNumber, answerNumber, eventOf, isEvent, isWritten, eventInRange, numbersInRange};
 ghost use Rattle.host.specs.Host.{answers, answered, onEvent, hostInRange, HeardFits, returned, left, hostReturns, hostLeaves};
 
-// What happens to a participant: a vote request with its own vote, a decision, or an answer of a log by its number, and so on.
+// What happens to a participant: a vote request, with its own vote; the coordinator's decision; a timeout, a crash or a restart; the answer of
+// a log, by its number.
 pub enum Event {
     Request(bool),
     Decided(Decision),

@@ -1,4 +1,4 @@
--- The rules keep a party's heard mask in range. Release, and the host's entry, cite them. Assumes nothing.
+-- The rules keep a party's heard mask in range. `Reached` and the host's entry cite this. Assumes nothing.
 use mathlib.Core.Path.{_≡_, refl, sym, ap, _∙_}
 use mathlib.Core.Logic.{_≢_}
 use mathlib.Core.Bool.{Bool, true, false, not, _||_, true≢false}
