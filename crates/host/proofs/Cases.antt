@@ -1,7 +1,88 @@
--- Every worked input of the host entry gives what its table says. Assumes nothing.
+-- The host entry on worked inputs, in document 01's numbers: what it refuses, and some that it takes. One theorem covers the table. Assumes nothing.
 use mathlib.Core.Path.{_≡_, refl}
-use mathlib.Core.Bool.{true}
-use Rattle.host.specs.Cases.{cases, allHold}
+use mathlib.Core.Bool.{Bool, true, _&&_}
+use mathlib.Core.List.{List, [], _∷_}
+use Prim.Native.Nat.{ℕ}
+use lib.Dec.{eqb}
+use Rattle.number.specs.Refusal.{accepted, outOfRange, tooShort, notDue}
+use Rattle.host.specs.Host.{hostReturns}
 
-pub all-hold : allHold cases ≡ true
+-- room in the buffer; n, own number, state, heard mask, event, detail, record; the number returned
+record Case : Type 0 where
+  room : ℕ
+  n : ℕ
+  own : ℕ
+  state : ℕ
+  heard : ℕ
+  event : ℕ
+  detail : ℕ
+  answer : ℕ
+  returned : ℕ
+
+abbrev case : ℕ → ℕ → ℕ → ℕ → ℕ → ℕ → ℕ → ℕ → ℕ → Case
+case room n own s h e d r k = record { room = room; n = n; own = own; state = s; heard = h; event = e; detail = d; answer = r; returned = k }
+
+abbrev cases : List Case
+cases =
+    -- n and own
+    case 3 0 1 0 0 3 0 0 outOfRange
+    ∷ case 3 9 1 0 0 3 0 0 outOfRange
+    ∷ case 3 4294967295 1 0 0 3 0 0 outOfRange
+    ∷ case 3 2 0 0 0 3 0 0 outOfRange
+    ∷ case 3 2 3 0 0 3 0 0 outOfRange
+    -- state, and the heard mask: outside 4, full, beyond n, with the own bit; n = 1 in 4
+    ∷ case 3 2 1 10 0 4 0 0 outOfRange
+    ∷ case 3 2 1 3 2 3 0 0 outOfRange
+    ∷ case 3 3 1 4 6 3 0 0 outOfRange
+    ∷ case 3 3 1 4 8 3 0 0 outOfRange
+    ∷ case 3 3 1 4 1 3 0 0 outOfRange
+    ∷ case 3 1 1 4 0 3 0 0 outOfRange
+    -- event, detail, record, and unused numbers that are not 0
+    ∷ case 3 2 1 0 0 0 0 0 outOfRange
+    ∷ case 3 2 1 0 0 7 0 0 outOfRange
+    ∷ case 3 2 1 0 0 1 2 0 outOfRange
+    ∷ case 3 2 1 3 0 2 1 0 outOfRange
+    ∷ case 3 2 1 3 0 2 4 0 outOfRange
+    ∷ case 3 2 1 1 0 6 0 1 outOfRange
+    ∷ case 3 2 1 1 0 6 3 1 outOfRange
+    ∷ case 3 2 1 1 0 6 1 0 outOfRange
+    ∷ case 3 2 1 1 0 6 1 4 outOfRange
+    ∷ case 3 2 1 0 0 1 1 1 outOfRange
+    ∷ case 3 2 1 0 0 3 1 0 outOfRange
+    ∷ case 3 2 1 0 0 4 0 2 outOfRange
+    ∷ case 3 2 1 9 0 5 0 1 outOfRange
+    -- not due: commit in 1; yes, or the other decision, in 5 or 6; a log that is not called
+    ∷ case 3 2 1 1 0 6 1 3 notDue
+    ∷ case 3 2 1 5 0 6 1 1 notDue
+    ∷ case 3 2 1 5 0 6 1 2 notDue
+    ∷ case 3 2 1 6 0 6 1 1 notDue
+    ∷ case 3 2 1 6 0 6 1 3 notDue
+    ∷ case 3 2 1 4 0 6 1 1 notDue
+    ∷ case 3 3 1 4 2 6 2 1 notDue
+    ∷ case 3 2 1 2 0 6 2 2 notDue
+    ∷ case 3 2 1 0 0 6 1 1 notDue
+    ∷ case 3 2 1 1 0 3 0 0 notDue
+    ∷ case 3 2 1 9 0 4 0 0 notDue
+    ∷ case 3 2 1 0 0 5 0 0 notDue
+    -- a buffer of 0 to 2 bytes, after 5 and 7
+    ∷ case 0 2 1 0 0 3 0 0 tooShort
+    ∷ case 1 2 1 0 0 3 0 0 tooShort
+    ∷ case 2 2 1 0 0 3 0 0 tooShort
+    ∷ case 0 9 1 0 0 3 0 0 outOfRange
+    ∷ case 0 2 1 1 0 3 0 0 notDue
+    -- events 1 and 2 are always due, also when down
+    ∷ case 3 2 1 9 0 1 1 0 accepted
+    ∷ case 3 2 1 9 0 2 3 0 accepted
+    ∷ case 3 2 1 7 0 2 2 0 accepted
+    ∷ case 3 3 1 4 2 6 3 1 accepted
+    ∷ []
+
+abbrev holds : Case → Bool
+holds c = eqb (hostReturns (c .room) (c .n) (c .own) (c .state) (c .heard) (c .event) (c .detail) (c .answer)) (c .returned)
+
+abbrev allHold : List Case → Bool
+allHold [] = true
+allHold (c ∷ cs) = holds c && allHold cs
+
+all-hold : allHold cases ≡ true
 all-hold = refl

@@ -2,4 +2,3 @@ pub mod Types
 pub mod Event
 pub mod Host
 pub mod Agrees
-pub mod Cases

@@ -1,4 +1,3 @@
 pub mod Types
 pub mod Tail
 pub mod Single
-pub mod Cases
