@@ -17,7 +17,7 @@ struct refusal {
 static const struct refusal refusals[] = {
     {"n 0", {0, 1, 0, 0, 3, 0, 0}, 3, CORNUS_OUT_OF_RANGE},
     {"n 9", {9, 1, 0, 0, 3, 0, 0}, 3, CORNUS_OUT_OF_RANGE},
-    {"n too large for its type's byte", {256 + 2, 1, 0, 0, 3, 0, 0}, 3, CORNUS_OUT_OF_RANGE},
+    {"n 258", {258, 1, 0, 0, 3, 0, 0}, 3, CORNUS_OUT_OF_RANGE},
     {"own 0", {2, 0, 0, 0, 3, 0, 0}, 3, CORNUS_OUT_OF_RANGE},
     {"own beyond n", {2, 3, 0, 0, 3, 0, 0}, 3, CORNUS_OUT_OF_RANGE},
     {"state 10", {2, 1, 10, 0, 4, 0, 0}, 3, CORNUS_OUT_OF_RANGE},

@@ -8,12 +8,15 @@ use Rattle.number.proofs.Laws.{and-true, are-numbers, are-numbers3}
 use Rattle.store.specs.Log.{log, perform, places}
 use Rattle.participant.specs.Participant
 use Rattle.participant.proofs.Numbers.{participant-numbers}
-use Rattle.rules.specs.State.{participantOf, logOf}
+use Rattle.rules.specs.State.{participantOf, logOf, fresh}
 use Rattle.rules.specs.Step.{participantAnswered, participantCalls, step}
+use Rattle.rules.specs.Run.{after}
+use Rattle.rules.proofs.Agreement.{Later, later, fresh-inv}
+use Rattle.rules.proofs.Reached.{reached-in-range}
 use Rattle.host.specs.Types.{LogPair, Call, Logged, Performed, Participant, Transition, Release, Step, Event}
 use Rattle.host.specs.Event.{eventNumber, detailNumber, answerNumber, eventOf, eventInRange}
 use Rattle.host.specs.Host.{answers, answered, onEvent, hostInRange, hostTransition, returned, left}
-use Rattle.host.specs.Agrees.{leads, HostAgrees}
+use Rattle.host.specs.Agrees.{leads, HostAgrees, HostAgreesReached}
 use Rattle.host.proofs.Numbers.{event-numbers}
 
 -- the numbers of a participant and of an event are in range, and lead to what those lead to
@@ -81,3 +84,11 @@ host-agrees r i l h q =
       restart = refl;
       answer = λ j x p. call-agrees r i j x p;
     }
+
+pub host-agrees-reached : HostAgreesReached
+host-agrees-reached n votes fits w steps h i l =
+    host-agrees (after (fresh places n votes) steps) i (rw (c .same-n) fits) (rw (c .same-n) l)
+    (reached-in-range places n votes (omega arith) fits w steps h .participants i (rw (c .same-n) l))
+  where
+    c : Later (fresh places n votes) (after (fresh places n votes) steps)
+    c = later (fresh places n votes) steps h (fresh-inv places n votes fits)

@@ -4,11 +4,12 @@ use mathlib.Core.Path.{_≡_}
 use mathlib.Core.Bool.{true}
 use mathlib.Core.List.{List}
 use Prim.Native.Nat.{ℕ, suc, _≤_, _<_}
-use Rattle.mask.specs.Mask.{has}
+use Rattle.mask.specs.Mask.{has, within}
 use Rattle.store.specs.Log.{perform, places}
 use Rattle.participant.specs.Participant
-use Rattle.rules.specs.State.{participantOf, logOf, inFlight}
+use Rattle.rules.specs.State.{participantOf, logOf, inFlight, fresh}
 use Rattle.rules.specs.Step.{drop, participantGoes, participantAnswered, step}
+use Rattle.rules.specs.Run.{after, AllInRange}
 use Rattle.host.specs.Types.{Logged, Performed, Message, Decision, Transition, Release, Step, Event}
 use Rattle.host.specs.Event.{eventNumber, detailNumber, answerNumber, eventInRange}
 use Rattle.host.specs.Host.{onEvent, returned, left, hostReturns, hostLeaves}
@@ -45,6 +46,12 @@ pub record Agrees (r : Release) (i : ℕ) : Type 0 where
   pub answer : (j : ℕ) (x : Logged) → perform (Participant.pending i (participantOf r i) j) (logOf r j) ≡ Performed.Done x
       → step r (Step.Call (suc i) (suc j)) ≡ participantAnswered true i j x (leads r i (Event.Answer (suc j) (x .answer))) r
 
--- for every participant in range, so for every one that a run reaches
+-- for every participant in range
 abbrev pub HostAgrees : Type 0
 HostAgrees = (r : Release) (i : ℕ) → r .n ≤ places → i < r .n → Participant.inRange (r .n) i (participantOf r i) ≡ true → Agrees r i
+
+-- so for every one that a run reaches
+abbrev pub HostAgreesReached : Type 0
+HostAgreesReached =
+    (n votes : ℕ) → n ≤ places → within n votes ≡ true → (steps : List Step) → AllInRange n steps → (i : ℕ) → i < n
+    → Agrees (after (fresh places n votes) steps) i

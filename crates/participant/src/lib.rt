@@ -29,7 +29,7 @@ pub enum Transition {
 }
 
 // To a state, with nothing sent.
-fn to(p: Participant) -> Transition
+pub fn to(p: Participant) -> Transition
     ensures { λ t. ⌜ t ≡ to p ⌝ }
 {
     Transition::To(p, Sent::Nothing)
