@@ -10,8 +10,8 @@ use Rattle.message.specs.Message.{sentNumber}
 use Rattle.participant.specs.Participant
 use Rattle.rules.proofs.Cases.{crash-cases, restart-cases}
 use Rattle.rules.proofs.Ranges.{ParticipantInRange, participant-held, Guard, Guarded, pending-guarded, ToInRange, request-range, decision-range, timeout-range, answer-range}
-use Rattle.schedule.specs.Step.{numberInRange}
-use Rattle.schedule.proofs.Numbers.{between}
+use Rattle.kind.specs.Step.{numberInRange}
+use Rattle.kind.proofs.Numbers.{between}
 use Rattle.host.specs.Types.{Call, Message, Sent, Participant, Transition, NotDue, To, Event}
 use Rattle.host.specs.Event.{eventOf, isEvent, isWritten, eventInRange, numbersInRange}
 use Rattle.host.specs.Host.{answers, onEvent, hostInRange, hostTransition, HeardFits}

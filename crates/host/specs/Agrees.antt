@@ -4,12 +4,13 @@ use mathlib.Core.Path.{_≡_}
 use mathlib.Core.Bool.{true}
 use mathlib.Core.List.{List}
 use Prim.Native.Nat.{ℕ, suc, _≤_, _<_}
+use Rattle.kind.specs.Step.{AllInRange}
 use Rattle.mask.specs.Mask.{has, within}
 use Rattle.store.specs.Log.{perform, places}
 use Rattle.participant.specs.Participant
 use Rattle.rules.specs.State.{participantOf, logOf, inFlight, fresh}
 use Rattle.rules.specs.Step.{drop, participantGoes, participantAnswered, step}
-use Rattle.rules.specs.Run.{after, AllInRange}
+use Rattle.rules.specs.Run.{after}
 use Rattle.host.specs.Types.{Logged, Performed, Message, Decision, Transition, Release, Step, Event}
 use Rattle.host.specs.Event.{eventNumber, detailNumber, answerNumber, eventInRange}
 use Rattle.host.specs.Host.{onEvent, returned, left, hostReturns, hostLeaves}

@@ -9,7 +9,7 @@ use Rattle.number.specs.Refusal.{accepted, outOfRange, tooShort, notDue}
 use Rattle.store.specs.Log.{places}
 use Rattle.message.specs.Message.{sentNumber}
 use Rattle.participant.specs.Participant
-use Rattle.schedule.specs.Step.{numberInRange}
+use Rattle.kind.specs.Step.{numberInRange}
 use Rattle.host.specs.Types.{LogRecord, Call, Sent, Participant, Transition, NotDue, To, Event}
 use Rattle.host.specs.Event.{eventOf, numbersInRange}
 

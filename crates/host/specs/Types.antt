@@ -10,6 +10,6 @@ pub use Rattle.message.specs.declared.Decision.{Decision}
 pub use Rattle.participant.specs.declared.Participant.{Participant}
 pub use Rattle.participant.specs.declared.Transition.{Transition}
 pub use Rattle.participant.specs.declared.Transition.the-variants.{NotDue, To}
-pub use Rattle.schedule.specs.declared.Step.{Step}
+pub use Rattle.kind.specs.declared.Step.{Step}
 pub use Rattle.rules.specs.declared.Release.{Release}
 pub use Rattle.host.specs.declared.Event.{Event}

@@ -1,4 +1,5 @@
 // The host's entry: one participant, stepped from C on document 01's numbers. `own` is a participant's number; `place` is that less one.
+use kind::between;
 use message::Decision;
 use number::NOT_DUE;
 use number::OUT_OF_RANGE;
@@ -6,7 +7,6 @@ use number::TOO_SHORT;
 use participant::Participant;
 use participant::Transition;
 use participant::to;
-use schedule::between;
 use store::Call;
 use store::LOGS;
 use store::LogRecord;

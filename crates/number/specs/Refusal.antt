@@ -5,6 +5,22 @@ use Prim.Native.Nat.{ℕ}
 abbrev pub accepted : ℕ
 accepted = 0
 
+-- schedule empty or over 32,768 bytes
+abbrev pub emptyOrTooLong : ℕ
+emptyOrTooLong = 1
+
+-- unknown kind
+abbrev pub unknownKind : ℕ
+unknownKind = 2
+
+-- body cut short
+abbrev pub bodyCutShort : ℕ
+bodyCutShort = 3
+
+-- header missing first or found later
+abbrev pub headerMisplaced : ℕ
+headerMisplaced = 4
+
 -- a number out of range, a vote beyond n, a forbidden pair
 abbrev pub outOfRange : ℕ
 outOfRange = 5

@@ -1,4 +1,12 @@
 // Document 01's numbers for refusals. How an enum goes to its number and back stands in specs/Numbering.antt.
+pub const EMPTY_OR_TOO_LONG: u32 = 1;
+
+pub const UNKNOWN_KIND: u32 = 2;
+
+pub const BODY_CUT_SHORT: u32 = 3;
+
+pub const HEADER_MISPLACED: u32 = 4;
+
 pub const OUT_OF_RANGE: u32 = 5;
 
 pub const TOO_SHORT: u32 = 6;

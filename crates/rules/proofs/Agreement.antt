@@ -6,11 +6,12 @@ use mathlib.Core.List.{List, [], _∷_, _++_, List·Memᴰ·cases-cons, List·Me
 use Prim.Native.Nat.{ℕ, zero, suc, _≤_}
 use native.Mathlib.Omega.{arith}
 use lib.ListN.{getD, replicate, length-replicate}
+use Rattle.kind.specs.Step.{AllInRange}
 use Rattle.mask.proofs.Laws.{has-zero}
 use Rattle.store.specs.Log.{empty}
 use Rattle.rules.specs.State.{firstOf, lastOf, logOf, maskOf, waiting, fresh}
 use Rattle.rules.specs.Step.{step}
-use Rattle.rules.specs.Run.{AllInRange, after}
+use Rattle.rules.specs.Run.{after}
 use Rattle.rules.specs.Demand.{Reported}
 use Rattle.rules.specs.Types.{LogRecord, None, Commit, LogPair, Message, Site, Step, Outcome, Release}
 use Rattle.rules.proofs.FirstRecords.{Keeps, keeps-refl, keeps-trans, still, excluded, true-false}

@@ -5,8 +5,8 @@ use Prim.Native.Nat.{ℕ, _≤_}
 use lib.Dec.{leb}
 use borrow.Author.Tests.{leb-true}
 use Rattle.number.proofs.Laws.{and-left, and-right}
-use Rattle.schedule.specs.Step.{numberInRange, inRange}
-use Rattle.schedule.proofs.Numbers.{between}
+use Rattle.kind.specs.Step.{numberInRange, inRange}
+use Rattle.kind.proofs.Numbers.{between}
 use Rattle.rules.specs.Types.{Step, Start, Deliver, Copy, Lose, Timeout, Crash, Restart}
 
 abbrev pub Bounds : ℕ → Step → Type 0

@@ -5,9 +5,10 @@ use mathlib.Core.List.{List, [], _∷_, _++_}
 use Prim.Native.Nat.{ℕ, _+_, _≤_, _<_}
 use native.Mathlib.Omega.{arith}
 use borrow.Author.Tests.{le-leb}
+use Rattle.kind.specs.Step.{AllInRange}
 use Rattle.rules.specs.State.{participantOf, firstOf, fresh}
 use Rattle.rules.specs.Step.{step}
-use Rattle.rules.specs.Run.{AllInRange, after}
+use Rattle.rules.specs.Run.{after}
 use Rattle.rules.specs.Demand.{Up, Holds, answered, AllUndisturbed, Ready, Decides, Claims, DemandHolds, crashes, AllParties, CutHolds}
 use Rattle.rules.specs.Types.{Step, Release}
 use Rattle.rules.proofs.Invariant.{Inv}

@@ -10,13 +10,14 @@ use lib.Dec.{eqb·zero-suc}
 use lib.ListN.{length}
 use lib.Seq.{getD-set-same}
 use borrow.Author.Tests.{ne-eqb}
+use Rattle.kind.specs.Step.{AllInRange}
 use Rattle.mask.specs.Mask.{has}
 use Rattle.participant.specs.Participant
 use Rattle.coordinator.specs.Coordinator
 use Rattle.rules.specs.State.{participantOf, firstOf, waiting}
 use Rattle.rules.specs.Report.{moves}
 use Rattle.rules.specs.Step.{called, drop, reply, participantTo, coordinatorTo, coordinatorGoes, receive, step}
-use Rattle.rules.specs.Run.{AllInRange, after}
+use Rattle.rules.specs.Run.{after}
 use Rattle.rules.specs.Demand.{isCallOf, answered, AllUndisturbed}
 use Rattle.rules.specs.Types.{Logged, Participant, Terminating, Site, Sent, Decision, To, Coordinator, CoordinatorTransition, Message, Step, Start, Deliver, Copy, Timeout, Crash, Restart, Outcome, Release, Report}
 use Rattle.rules.proofs.FirstRecords.{true-false}

@@ -7,6 +7,7 @@ use Prim.Native.Nat.{ℕ, suc, _+_, _^_, _≤_, _<_}
 use native.Mathlib.Omega.{arith}
 use lib.Pow.{pow-pos}
 use lib.ListN.{getD}
+use Rattle.kind.specs.Step.{AllInRange}
 use Rattle.mask.specs.Mask.{has, insert, remove, full}
 use Rattle.mask.proofs.Laws.{lt-within, within-lt, insert-lt, remove-le, full-lt}
 use Rattle.store.specs.Log.{allowed, empty}
@@ -16,7 +17,7 @@ use Rattle.rules.proofs.Ranges.{ParticipantInRange, CoordinatorInRange,
 use Rattle.rules.proofs.Cases.{crash-cases, restart-cases, start-cases, coordinator-timeout-cases, coordinator-crash-cases, coordinator-restart-cases}
 use Rattle.rules.specs.State.{participantOf, participantAt, logOf, logAt, firstOf, lastOf, maskAt, maskOf, waiting, fresh}
 use Rattle.rules.specs.Step.{called, send, sendAll, drop, withMask, withParticipant, participantTo, withCoordinator, coordinatorTo, coordinatorGoes, receive, step}
-use Rattle.rules.specs.Run.{AllInRange, after}
+use Rattle.rules.specs.Run.{after}
 use Rattle.rules.specs.Range.{ReleaseInRange, ReachedInRange, LogsKept, ReachedKept}
 use Rattle.rules.specs.Types.{LogRecord, None, Yes, Abort, Commit, LogPair, Participant, Waiting, Site, Sent, Decision, NotDue, To, Coordinator, CoordinatorTransition, Message, Step, Release, Report}
 use Rattle.rules.proofs.FirstRecords.{Keep}

@@ -9,7 +9,7 @@ use Rattle.participant.specs.Participant
 use Rattle.coordinator.specs.Coordinator
 use Rattle.rules.specs.State.{participantOf, logOf, firstOf, lastOf}
 use Rattle.rules.specs.Step.{called, drop, moved, participantTo, participantGoes, coordinatorTo, coordinatorGoes, receive, step}
-use Rattle.schedule.specs.Step.{inRange}
+use Rattle.kind.specs.Step.{inRange}
 use Rattle.rules.specs.Types.{LogRecord, LogPair, Call, Logged, Performed, Participant, Sent, Decision, Transition, NotDue, To, Coordinator, CoordinatorTransition, Message, Step, Release, Report}
 use Rattle.rules.proofs.FirstRecords.{still, Keeps, keeps-refl, keeps-trans}
 use Rattle.rules.proofs.Invariant.{Tells, Inv, participantClaim, coordinatorClaim}

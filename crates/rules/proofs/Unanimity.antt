@@ -7,6 +7,7 @@ use mathlib.Core.Bool.{Bool, true, false}
 use Prim.Native.Nat.{ℕ, suc, _<_}
 use native.Mathlib.Omega.{arith}
 use lib.Dec.{eqb}
+use Rattle.kind.specs.Step.{AllInRange}
 use Rattle.mask.specs.Mask.{has, full, insert}
 use Rattle.mask.proofs.Laws.{has-full}
 use Rattle.store.specs.Log.{empty, perform}
@@ -16,7 +17,6 @@ use Rattle.rules.proofs.Cases.{cond-cases, answer-cases, request-cases,
 use Rattle.rules.specs.State.{participantOf, participantAt, logOf, logAt, firstOf, waiting, fresh}
 use Rattle.rules.specs.Report.{moves}
 use Rattle.rules.specs.Step.{called, drop, withParticipant, participantTo, coordinatorTo, coordinatorGoes, receive, step}
-use Rattle.rules.specs.Run.{AllInRange}
 use Rattle.rules.specs.Demand.{SomeAbort, Reported, AllCalm}
 use Rattle.rules.specs.Types.{LogRecord, None, Yes, Abort, Commit, LogPair, Call, Logged, Performed, Participant, Waiting, VotingYes, Closing, Uncertain, Terminating, RecordingCommit, RecordingAbort, DoneCommit, DoneAbort, Down, Site, Sent, Decision, Transition, NotDue, To, Coordinator, CoordinatorTransition, Message, Step, Timeout, Restart, Outcome, Release, Report}
 use Rattle.rules.proofs.FirstRecords.{true-false}

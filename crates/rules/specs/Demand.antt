@@ -7,10 +7,11 @@ use mathlib.Core.List.{List, [], _∷_, _++_, List·Memᴰ}
 use Prim.Native.Nat.{ℕ, suc, _+_, _≤_, _<_}
 use lib.Dec.{eqb}
 use lib.ListN.{length}
+use Rattle.kind.specs.Step.{AllInRange}
 use Rattle.mask.specs.Mask.{full}
 use Rattle.rules.specs.State.{participantOf, firstOf, lastOf, fresh}
 use Rattle.rules.specs.Step.{step, isDue}
-use Rattle.rules.specs.Run.{outcomes, after, AllInRange}
+use Rattle.rules.specs.Run.{outcomes, after}
 use Rattle.rules.specs.Types.{LogRecord, Yes, Abort, Commit, Participant, Terminating, DoneCommit, DoneAbort, Down, Coordinator, Release, Step, Start, Deliver, Copy, Lose, Timeout, Crash, Restart, Outcome}
 
 -- reported decisions, and what the logs say: `first j` is the first record of log j

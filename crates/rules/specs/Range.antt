@@ -6,12 +6,13 @@ use mathlib.Core.Bool.{true}
 use mathlib.Core.List.{List, _++_}
 use Prim.Native.Nat.{ℕ, _≤_, _<_}
 use lib.ListN.{getD}
+use Rattle.kind.specs.Step.{AllInRange}
 use Rattle.mask.specs.Mask.{within}
 use Rattle.store.specs.Log.{empty, isAllowed}
 use Rattle.participant.specs.Participant
 use Rattle.coordinator.specs.Coordinator
 use Rattle.rules.specs.State.{participantOf, logOf, firstOf, lastOf, maskOf, fresh}
-use Rattle.rules.specs.Run.{after, AllInRange}
+use Rattle.rules.specs.Run.{after}
 use Rattle.rules.specs.Types.{None, Abort, Commit, Message, Waiting, Release, Step}
 
 -- the fields of the tail, zeros beyond n

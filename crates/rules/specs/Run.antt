@@ -1,11 +1,10 @@
 -- A run over a list of steps: each step gets the state that the one before it left. Assumes nothing.
 use mathlib.Core.Path.{_≡_}
-use mathlib.Core.Bool.{Bool, true, false, cond, _&&_}
+use mathlib.Core.Bool.{Bool, false, cond, _&&_}
 use mathlib.Core.List.{List, [], _∷_}
 use Prim.Native.Nat.{ℕ, _+_, _<_}
 use lib.Dec.{eqb}
 use lib.ListN.{length, getD}
-use Rattle.schedule.specs.Step.{inRange}
 use Rattle.rules.specs.Step.{step, isDue}
 use Rattle.rules.specs.Types.{Release, Step, Start, Deliver, Copy, Lose, Timeout, Crash, Restart, Outcome}
 
@@ -18,11 +17,6 @@ outcomes r (s ∷ ss) = step r s .outcome ∷ outcomes (step r s .next) ss
 abbrev pub after : Release → List Step → Release
 after r [] = r
 after r (s ∷ ss) = after (step r s .next) ss
-
--- the steps that the reader yields under a header with n
-abbrev pub AllInRange : ℕ → List Step → Type 0
-AllInRange n [] = Unit {0}
-AllInRange n (s ∷ ss) = (inRange n s ≡ true) × AllInRange n ss
 
 -- the due store calls made by party p (kinds 06 and 07)
 abbrev pub isStoreCallOf : ℕ → Step → Bool

@@ -17,7 +17,7 @@ pub use Rattle.coordinator.specs.declared.Coordinator.{Coordinator}
 pub use Rattle.coordinator.specs.declared.Transition.{Transition as CoordinatorTransition}
 pub use Rattle.rules.specs.declared.Site.{Site}
 pub use Rattle.rules.specs.declared.Release.{Release}
-pub use Rattle.schedule.specs.declared.Step.{Step}
-pub use Rattle.schedule.specs.declared.Step.the-variants.{Start, Deliver, Copy, Lose, Timeout, Crash, Restart}
+pub use Rattle.kind.specs.declared.Step.{Step}
+pub use Rattle.kind.specs.declared.Step.the-variants.{Start, Deliver, Copy, Lose, Timeout, Crash, Restart}
 pub use Rattle.rules.specs.declared.Outcome.{Outcome}
 pub use Rattle.rules.specs.declared.Report.{Report}

@@ -1,3 +1,5 @@
 pub mod Types
-pub mod Kind
-pub mod Step
+pub mod Record
+pub mod Reader
+pub mod Writer
+pub mod Schedule

@@ -1,4 +1,8 @@
--- The declared types of a schedule, and the messages that its steps name.
-pub use Rattle.message.specs.declared.Message.{Message}
-pub use Rattle.schedule.specs.declared.Kind.{Kind}
-pub use Rattle.schedule.specs.declared.Step.{Step}
+-- The declared types of a schedule, and the kinds and steps that its records have.
+pub use Rattle.kind.specs.declared.Kind.{Kind}
+pub use Rattle.kind.specs.declared.Step.{Step}
+pub use Rattle.schedule.specs.declared.Header.{Header}
+pub use Rattle.schedule.specs.declared.Record.{Record}
+pub use Rattle.schedule.specs.declared.reader.Before.{Before}
+pub use Rattle.schedule.specs.declared.reader.Read.{Read}
+pub use Rattle.schedule.specs.declared.writer.Written.{Written}

@@ -1,191 +1,79 @@
-// What a schedule is made of: kinds, and steps with their numbers.
-use message::Message;
+// A schedule as bytes: headers, records and their ranges. The reader takes one record from bytes, the writer puts one into a lent buffer.
+pub mod reader;
+pub mod writer;
+
+use kind::Kind;
+use kind::Step;
+use kind::between;
+use store::LOGS;
 ghost use mathlib.Core.Path.{_≡_};
-ghost use Rattle.schedule.specs.Kind.{kindNumber, kindOf};
-ghost use Rattle.schedule.specs.Step.{stepKind, firstNumber, secondNumber, ofKind, isStep, numberInRange, inRange, numbersInRange};
+ghost use Rattle.schedule.specs.Record.{headerInRange, recordHeader, recordStep, recordInRange, recordLength};
 
-// The kind of a record.
-pub enum Kind {
-    Header,
-    Start,
-    Deliver,
-    Copy,
-    Lose,
-    Call,
-    CallLost,
-    Timeout,
-    Crash,
-    Restart,
+// The most bytes that a schedule has, and the last place at which a record is written.
+pub const LONGEST: usize = 32768;
+
+// The header of a schedule: n and the vote mask.
+pub struct Header {
+    pub n: u32,
+    pub votes: u32,
 }
 
-// A step, by its kind. A message goes by its type and participant, a call by its party and log; participants, parties and logs are numbers.
-pub enum Step {
-    Start,
-    Deliver(Message, u32),
-    Copy(Message, u32),
-    Lose(Message, u32),
-    Call(u32, u32),
-    CallLost(u32, u32),
-    Timeout(u32),
-    Crash(u32),
-    Restart(u32),
+// A record: its kind and the two numbers of its body, 0 where the body has none.
+pub struct Record {
+    pub kind: Kind,
+    pub first: u32,
+    pub second: u32,
 }
 
-impl Kind {
-    // Its number.
-    pub fn number(self) -> u32
-        ensures { λ k. ⌜ k ≡ kindNumber self ⌝ }
+impl Header {
+    // Whether a schedule can have the header.
+    pub fn in_range(self) -> bool
+        ensures { λ b. ⌜ b ≡ headerInRange self ⌝ }
     {
-        match self {
-            Kind::Header => 1,
-            Kind::Start => 2,
-            Kind::Deliver => 3,
-            Kind::Copy => 4,
-            Kind::Lose => 5,
-            Kind::Call => 6,
-            Kind::CallLost => 7,
-            Kind::Timeout => 8,
-            Kind::Crash => 9,
-            Kind::Restart => 10,
-        }
-    }
-
-    // The kind with number k; where there is none, a header.
-    pub fn of(k: u32) -> Kind
-        ensures { λ x. ⌜ x ≡ kindOf k ⌝ }
-    {
-        match k {
-            2 => Kind::Start,
-            3 => Kind::Deliver,
-            4 => Kind::Copy,
-            5 => Kind::Lose,
-            6 => Kind::Call,
-            7 => Kind::CallLost,
-            8 => Kind::Timeout,
-            9 => Kind::Crash,
-            10 => Kind::Restart,
-            _ => Kind::Header,
-        }
-    }
-}
-
-// Whether a number is between two others.
-pub fn between(low: u32, k: u32, high: u32) -> bool
-    ensures { λ b. ⌜ b ≡ numberInRange low k high ⌝ }
-{
-    if low <= k { k <= high } else { false }
-}
-
-impl Step {
-    pub fn kind(self) -> Kind
-        ensures { λ k. ⌜ k ≡ stepKind self ⌝ }
-    {
-        match self {
-            Step::Start => Kind::Start,
-            Step::Deliver(_, _) => Kind::Deliver,
-            Step::Copy(_, _) => Kind::Copy,
-            Step::Lose(_, _) => Kind::Lose,
-            Step::Call(_, _) => Kind::Call,
-            Step::CallLost(_, _) => Kind::CallLost,
-            Step::Timeout(_) => Kind::Timeout,
-            Step::Crash(_) => Kind::Crash,
-            Step::Restart(_) => Kind::Restart,
-        }
-    }
-
-    // The first number of its body, or 0.
-    pub fn first(self) -> u32
-        ensures { λ a. ⌜ a ≡ firstNumber self ⌝ }
-    {
-        match self {
-            Step::Start => 0,
-            Step::Deliver(m, _) => m.number(),
-            Step::Copy(m, _) => m.number(),
-            Step::Lose(m, _) => m.number(),
-            Step::Call(a, _) => a,
-            Step::CallLost(a, _) => a,
-            Step::Timeout(a) => a,
-            Step::Crash(a) => a,
-            Step::Restart(a) => a,
-        }
-    }
-
-    // The second number of its body, or 0.
-    pub fn second(self) -> u32
-        ensures { λ b. ⌜ b ≡ secondNumber self ⌝ }
-    {
-        match self {
-            Step::Start => 0,
-            Step::Deliver(_, b) => b,
-            Step::Copy(_, b) => b,
-            Step::Lose(_, b) => b,
-            Step::Call(_, b) => b,
-            Step::CallLost(_, b) => b,
-            Step::Timeout(_) => 0,
-            Step::Crash(_) => 0,
-            Step::Restart(_) => 0,
-        }
-    }
-
-    // The step of a kind with the numbers of its body. A header is none: for it a start.
-    pub fn of(k: Kind, a: u32, b: u32) -> Step
-        ensures { λ s. ⌜ s ≡ ofKind k a b ⌝ }
-    {
-        match k {
-            Kind::Header => Step::Start,
-            Kind::Start => Step::Start,
-            Kind::Deliver => Step::Deliver(Message::of(a), b),
-            Kind::Copy => Step::Copy(Message::of(a), b),
-            Kind::Lose => Step::Lose(Message::of(a), b),
-            Kind::Call => Step::Call(a, b),
-            Kind::CallLost => Step::CallLost(a, b),
-            Kind::Timeout => Step::Timeout(a),
-            Kind::Crash => Step::Crash(a),
-            Kind::Restart => Step::Restart(a),
-        }
-    }
-
-    // Whether these are the numbers of a step.
-    fn known(k: u32, a: u32, b: u32) -> bool
-        ensures { λ x. ⌜ x ≡ isStep k a b ⌝ }
-    {
-        let s = Step::of(Kind::of(k), a, b);
-        if s.kind().number() == k {
-            if s.first() == a {
-                s.second() == b
-            } else {
-                false
-            }
+        if between(1, self.n, LOGS as u32) {
+            mask::within(self.votes, self.n)
         } else {
             false
         }
     }
+}
 
-    // Whether a reader yields the step under a header with n.
+impl Record {
+    // Its kind's byte and its body.
+    pub fn length(self) -> usize
+        ensures { λ l. ⌜ l ≡ recordLength self ⌝ }
+    {
+        let kind = self.kind;
+        1 + Kind::body(kind)
+    }
+
+    // The header that it is.
+    pub fn header(self) -> Header
+        ensures { λ h. ⌜ h ≡ recordHeader self ⌝ }
+    {
+        Header {
+            n: self.first,
+            votes: self.second,
+        }
+    }
+
+    // The step that it is.
+    pub fn step(self) -> Step
+        ensures { λ s. ⌜ s ≡ recordStep self ⌝ }
+    {
+        let kind = self.kind;
+        Step::of(kind, self.first, self.second)
+    }
+
+    // Whether its numbers are in range: a step's by n, a header's by its own n.
     pub fn in_range(self, n: u32) -> bool
-        ensures { λ b. ⌜ b ≡ inRange n self ⌝ }
+        ensures { λ b. ⌜ b ≡ recordInRange n self ⌝ }
     {
-        match self {
-            Step::Start => true,
-            Step::Deliver(_, p) => between(1, p, n),
-            Step::Copy(_, p) => between(1, p, n),
-            Step::Lose(_, p) => between(1, p, n),
-            Step::Call(p, q) => if p <= n { between(1, q, n) } else { false },
-            Step::CallLost(p, q) => if p <= n { between(1, q, n) } else { false },
-            Step::Timeout(p) => p <= n,
-            Step::Crash(p) => p <= n,
-            Step::Restart(p) => p <= n,
-        }
-    }
-
-    // Whether these are the numbers of a step that a reader yields under a header with n.
-    pub fn numbers_in_range(n: u32, k: u32, a: u32, b: u32) -> bool
-        ensures { λ x. ⌜ x ≡ numbersInRange n k a b ⌝ }
-    {
-        if Step::known(k, a, b) {
-            Step::of(Kind::of(k), a, b).in_range(n)
+        let kind = self.kind;
+        if kind.is_header() {
+            self.header().in_range()
         } else {
-            false
+            Step::numbers_in_range(n, kind.number(), self.first, self.second)
         }
     }
 }

@@ -15,8 +15,8 @@ use Rattle.participant.specs.Participant
 use Rattle.coordinator.specs.Coordinator
 use Rattle.participant.proofs.Numbers.{participant-numbers}
 use Rattle.coordinator.proofs.Numbers.{coordinator-numbers}
-use Rattle.schedule.specs.Step.{stepNumber, firstNumber, secondNumber, stepOf, inRange, numbersInRange}
-use Rattle.schedule.proofs.Numbers.{step-numbers}
+use Rattle.kind.specs.Step.{stepNumber, firstNumber, secondNumber, stepOf, inRange, numbersInRange}
+use Rattle.kind.proofs.Numbers.{step-numbers}
 use Rattle.rules.specs.State.{participantOf, logOf, firstOf, lastOf, waiting, fresh}
 use Rattle.rules.specs.Step.{step}
 use Rattle.rules.specs.Run.{after, Countable}

@@ -4,7 +4,7 @@ use mathlib.Core.Bool.{true, false}
 use Prim.Native.Nat.{ℕ}
 use Rattle.number.specs.Refusal.{accepted, outOfRange, notDue}
 use Rattle.number.proofs.Laws.{and-true, and-false, false-and}
-use Rattle.schedule.specs.Step.{stepOf, numbersInRange}
+use Rattle.kind.specs.Step.{stepOf, numbersInRange}
 use Rattle.rules.specs.Report.{outcomeNumber, moves}
 use Rattle.rules.specs.Step.{step}
 use Rattle.tail.specs.Tail.{tailOf, releaseOf, tailInRange}

@@ -9,11 +9,11 @@ use lib.ListN.{length, getD, List·getD-eq-default}
 use borrow.Author.Tests.{ltb-true, eqb-true}
 use Rattle.number.proofs.Laws.{and-left, and-right}
 use Rattle.store.specs.Log.{places}
-use Rattle.schedule.specs.Step.{numberInRange}
+use Rattle.kind.specs.Step.{numberInRange}
 use Rattle.rules.specs.Run.{Countable}
 use Rattle.tail.specs.Tail.{every, masksInRange, partiesInRange, countInRange, callsInRange, tailInRange}
 use Rattle.tail.specs.Types.{Tail}
-use Rattle.schedule.proofs.Numbers.{between}
+use Rattle.kind.proofs.Numbers.{between}
 use Rattle.tail.proofs.Tabulate.{every-at}
 
 pub n-in-range : (t : Tail) → tailInRange t ≡ true → (1 ≤ t .n) × (t .n ≤ places)

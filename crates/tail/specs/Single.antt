@@ -6,11 +6,11 @@ use Prim.Native.Nat.{ℕ, _≤_}
 use Rattle.number.specs.Refusal.{accepted, outOfRange, notDue}
 use Rattle.mask.specs.Mask.{within}
 use Rattle.store.specs.Log.{places}
-use Rattle.schedule.specs.Step.{stepNumber, firstNumber, secondNumber, stepOf, inRange, numbersInRange}
+use Rattle.kind.specs.Step.{stepNumber, firstNumber, secondNumber, stepOf, inRange, numbersInRange, AllInRange}
 use Rattle.rules.specs.State.{fresh}
 use Rattle.rules.specs.Report.{outcomeNumber, moves}
 use Rattle.rules.specs.Step.{step}
-use Rattle.rules.specs.Run.{after, AllInRange, Countable}
+use Rattle.rules.specs.Run.{after, Countable}
 use Rattle.tail.specs.Tail.{tailOf, releaseOf, tailInRange}
 use Rattle.tail.specs.Types.{Tail, Step, Report, Stepped}
 

@@ -9,7 +9,7 @@ use Rattle.mask.specs.Mask.{within}
 use Rattle.store.specs.Log.{recordNumber, recordOf, isRecord, isAllowed, places}
 use Rattle.participant.specs.Participant
 use Rattle.coordinator.specs.Coordinator
-use Rattle.schedule.specs.Step.{numberInRange}
+use Rattle.kind.specs.Step.{numberInRange}
 use Rattle.rules.specs.State.{participantOf, firstOf, lastOf, types}
 use Rattle.rules.specs.Run.{countLimit}
 use Rattle.tail.specs.Types.{LogPair, Site, Release, ParticipantFields, Tail}

@@ -284,7 +284,7 @@ impl Tail {
         ensures { λ b. ⌜ b ≡ tailInRange self ⌝ }
     {
         let n = self.n;
-        if schedule::between(1, n, LOGS as u32) {
+        if kind::between(1, n, LOGS as u32) {
             if self.masks_in_range() {
                 if self.parties_in_range() {
                     self.calls_in_range()

@@ -1,15 +1,15 @@
 // The single step: one step of a whole release's state, on document 01's numbers.
 use super::Tail;
+use kind::Kind;
+use kind::Step;
 use number::NOT_DUE;
 use number::OUT_OF_RANGE;
 use release::step::moves;
 use release::step::report_byte;
 use release::step::step;
-use schedule::Kind;
-use schedule::Step;
 ghost use mathlib.Core.Path.{_≡_};
 ghost use mathlib.Core.Bool.{true};
-ghost use Rattle.schedule.specs.Step.{inRange};
+ghost use Rattle.kind.specs.Step.{inRange};
 ghost use Rattle.rules.specs.Step.{step};
 ghost use Rattle.tail.specs.Tail.{releaseOf, tailInRange};
 ghost use Rattle.tail.specs.Single.{refused, handed, singleStep};

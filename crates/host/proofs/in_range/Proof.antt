@@ -1,5 +1,5 @@
 -- `host::in_range` meets its contract, case by case. Assumes nothing.
-use Rattle.schedule.proofs.Numbers.{between}
+use Rattle.kind.proofs.Numbers.{between}
 use native.Mathlib.Omega.{arith}
 use mathlib.Core.Path.{sym, _∙_}
 use borrow.Author.Needs.{needs}

@@ -1,6 +1,6 @@
 -- `host::on_event` meets its contract, case by case. Assumes nothing.
-use Rattle.schedule.proofs.Numbers.{between}
-use Rattle.schedule.specs.Step.{numberInRange}
+use Rattle.kind.proofs.Numbers.{between}
+use Rattle.kind.specs.Step.{numberInRange}
 use Rattle.number.proofs.Laws.{and-left}
 use native.Mathlib.Omega.{arith}
 use borrow.Author.Needs.{needs}

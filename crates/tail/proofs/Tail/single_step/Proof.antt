@@ -4,8 +4,8 @@ use Rattle.tail.specs.Types.{Step}
 use Rattle.tail.specs.Single.{handed}
 use Rattle.tail.specs.Tail.{releaseOf}
 use Rattle.rules.specs.Step.{step}
-use Rattle.schedule.specs.declared.Kind.{Kind}
-use Rattle.schedule.specs.Step.{isStep, ofKind}
+use Rattle.kind.specs.declared.Kind.{Kind}
+use Rattle.kind.specs.Step.{isStep, ofKind}
 use Rattle.number.proofs.Laws.{and-right}
 use mathlib.Core.Path.{sym, ap, _∙_}
 use mathlib.Core.Path.{sym, _∙_}

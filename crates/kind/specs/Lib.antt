@@ -1,0 +1,3 @@
+pub mod Types
+pub mod Kind
+pub mod Step

@@ -1,0 +1,41 @@
+-- The reader: the record that some bytes begin with, told the header that came before, or none. Order: 1, 2, 3, 4, 5. Assumes nothing.
+use mathlib.Core.Bool.{Bool, cond, _&&_, not}
+use mathlib.Core.List.{List}
+use Prim.Native.Nat.{ℕ}
+use lib.Dec.{eqb, leb}
+use lib.ListN.{length, getD}
+use Rattle.number.specs.Refusal.{emptyOrTooLong, unknownKind, bodyCutShort, headerMisplaced, outOfRange}
+use Rattle.kind.specs.Kind.{kindOf, isKind, bodyLength, isHeader}
+use Rattle.schedule.specs.Types.{Kind, Header, Record, Before, Read}
+use Rattle.schedule.specs.Record.{headerInRange, recordInRange, recordLength}
+
+-- a refusal names the place of the record's first byte, counted in the bytes given
+abbrev pub refused : ℕ → Read
+refused k = Read.Refused k 0
+
+-- number i of the body, 0 where the kind's body has none
+abbrev pub bodyNumber : List ℕ → Kind → ℕ → ℕ
+bodyNumber bytes k i = cond (leb i (bodyLength k)) (getD bytes i 0) 0
+
+-- the header comes first, only there
+abbrev pub isPlaced : Before → Kind → Bool
+isPlaced Before.Nothing k = isHeader k
+isPlaced (Before.Header h) k = not (isHeader k)
+
+-- ranges by the header's n; a header that is itself out of range is not trusted
+abbrev pub inRangeAfter : Before → Record → Bool
+inRangeAfter Before.Nothing r = recordInRange 0 r
+inRangeAfter (Before.Header h) r = headerInRange h && recordInRange (h .n) r
+
+abbrev pub bodyAnswer : Before → Record → Read
+bodyAnswer before r = cond (inRangeAfter before r) (Read.Record r (recordLength r)) (refused outOfRange)
+
+abbrev pub kindAnswer : List ℕ → Before → Kind → Read
+kindAnswer bytes before k =
+    cond (leb (length bytes) (bodyLength k)) (refused bodyCutShort)
+    (cond (isPlaced before k) (bodyAnswer before (record { kind = k; first = bodyNumber bytes k 1; second = bodyNumber bytes k 2 })) (refused headerMisplaced))
+
+abbrev pub readerAnswers : List ℕ → Before → Read
+readerAnswers bytes before =
+    cond (eqb (length bytes) 0) (refused emptyOrTooLong)
+    (cond (isKind (getD bytes 0 0)) (kindAnswer bytes before (kindOf (getD bytes 0 0))) (refused unknownKind))

@@ -1,0 +1,36 @@
+-- The writer: one record at a given place, 0 to 32,768, of a lent buffer. It knows no n. Order: 2, 5, 6. Assumes nothing.
+use mathlib.Core.Bool.{Bool, cond, _&&_}
+use mathlib.Core.List.{List}
+use Prim.Native.Nat.{ℕ, _+_}
+use lib.Dec.{leb, ltb}
+use lib.ListN.{length}
+use lib.Seq.{sets}
+use Rattle.number.specs.Refusal.{unknownKind, outOfRange, tooShort}
+use Rattle.store.specs.Log.{places}
+use Rattle.kind.specs.Kind.{isKind}
+use Rattle.schedule.specs.Types.{Record, Written}
+use Rattle.schedule.specs.Record.{recordOf, recordInRange, recordLength, recordBytes, longest}
+
+-- participants and logs 1 to 8, parties 0 to 8
+abbrev pub isWritable : ℕ → Record → Bool
+isWritable place r = leb place longest && recordInRange places r
+
+-- the place after the record, where the buffer has room for that many bytes
+abbrev pub roomAnswer : ℕ → ℕ → Written
+roomAnswer room end = cond (ltb room end) (Written.Refused tooShort end) (Written.Done end)
+
+abbrev pub recordAnswer : ℕ → ℕ → Record → Written
+recordAnswer room place r = cond (isWritable place r) (roomAnswer room (place + recordLength r)) (Written.Refused outOfRange place)
+
+-- what the writer answers, with a buffer of `room` bytes
+abbrev pub writerAnswers : ℕ → ℕ → ℕ → ℕ → ℕ → Written
+writerAnswers room place k a b = cond (isKind k) (recordAnswer room place (recordOf k a b)) (Written.Refused unknownKind place)
+
+-- what it leaves in the buffer
+
+abbrev pub leaves : List ℕ → ℕ → Record → Written → List ℕ
+leaves buffer place r (Written.Done end) = sets buffer place (recordBytes r)
+leaves buffer place r (Written.Refused k v) = buffer
+
+abbrev pub writerLeaves : List ℕ → ℕ → ℕ → ℕ → ℕ → List ℕ
+writerLeaves buffer place k a b = leaves buffer place (recordOf k a b) (writerAnswers (length buffer) place k a b)

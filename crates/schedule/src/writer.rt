@@ -1,0 +1,85 @@
+// The writer: one record at a given place of a lent buffer. It knows no n.
+use super::LONGEST;
+use super::Record;
+use kind::Kind;
+use number::OUT_OF_RANGE;
+use number::TOO_SHORT;
+use number::UNKNOWN_KIND;
+use store::LOGS;
+ghost use mathlib.Core.Path.{_≡_};
+ghost use mathlib.Core.Bool.{true};
+ghost use Prim.Native.Nat.{_+_, _≤_};
+ghost use lib.ListN.{length};
+ghost use lib.Seq.{sets};
+ghost use Rattle.schedule.specs.Record.{recordLength, recordBytes};
+ghost use Rattle.schedule.specs.Writer.{isWritable, recordAnswer, leaves, writerAnswers, writerLeaves};
+
+// The place after the record, or a refusal's number with the place given or the length needed.
+pub enum Written {
+    Done(usize),
+    Refused(u32, usize),
+}
+
+fn writable(place: usize, r: Record) -> bool
+    ensures { λ b. ⌜ b ≡ isWritable place r ⌝ }
+{
+    if place <= LONGEST {
+        r.in_range(LOGS as u32)
+    } else {
+        false
+    }
+}
+
+fn put(buffer: &mut [u8], place: usize, r: Record)
+    requires { ⌜ (isWritable place r ≡ true) × (place + recordLength r ≤ length (now buffer)) ⌝ }
+    ensures { λ _. ⌜ now (buffer .exit) ≡ sets (now (buffer .entry)) place (recordBytes r) ⌝ }
+{
+    let kind = r.kind;
+    let body = Kind::body(kind);
+    buffer[place] = kind.number() as u8;
+    if body == Kind::NO_NUMBER {
+        return;
+    }
+    buffer[place + 1] = r.first as u8;
+    if body == Kind::ONE_NUMBER {
+        return;
+    }
+    buffer[place + 2] = r.second as u8;
+}
+
+fn write_kind(buffer: &mut [u8], place: usize, r: Record) -> Written
+    ensures { λ x. ⌜ (x ≡ recordAnswer (length (now (buffer .entry))) place r)
+        × (now (buffer .exit) ≡ leaves (now (buffer .entry)) place r (recordAnswer (length (now (buffer .entry))) place r)) ⌝ }
+{
+    if writable(place, r) {
+        let end = place + r.length();
+        if buffer.len() < end {
+            return Written::Refused(TOO_SHORT, end);
+        }
+        put(buffer, place, r);
+        Written::Done(end)
+    } else {
+        Written::Refused(OUT_OF_RANGE, place)
+    }
+}
+
+// The record of a kind and the two numbers of its body, 0 where it has none, is put at the place.
+pub fn write_record(buffer: &mut [u8], place: usize, kind: u32, first: u32, second: u32) -> Written
+    ensures { λ x. ⌜ (x ≡ writerAnswers (length (now (buffer .entry))) place kind first second)
+        × (now (buffer .exit) ≡ writerLeaves (now (buffer .entry)) place kind first second) ⌝ }
+{
+    let known = Kind::of(kind);
+    if known.number() == kind {
+        write_kind(
+            buffer,
+            place,
+            Record {
+                kind: known,
+                first: first,
+                second: second,
+            },
+        )
+    } else {
+        Written::Refused(UNKNOWN_KIND, place)
+    }
+}
