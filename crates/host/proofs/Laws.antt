@@ -7,12 +7,13 @@ use lib.Pow.{pow-mono}
 use Rattle.number.proofs.Laws.{and-left, and-right}
 use Rattle.store.specs.Log.{places}
 use Rattle.message.specs.Message.{sentNumber}
+use Rattle.message.proofs.Numbers.{type-most}
 use Rattle.participant.specs.Participant
 use Rattle.rules.proofs.Cases.{crash-cases, restart-cases}
 use Rattle.rules.proofs.Ranges.{ParticipantInRange, participant-held, Guard, Guarded, pending-guarded, ToInRange, request-range, decision-range, timeout-range, answer-range}
 use Rattle.kind.specs.Step.{numberInRange}
 use Rattle.kind.proofs.Numbers.{between}
-use Rattle.host.specs.Types.{Call, Message, Sent, Participant, Transition, NotDue, To, Event}
+use Rattle.host.specs.Types.{Call, Sent, Participant, Transition, NotDue, To, Event}
 use Rattle.host.specs.Event.{eventOf, isEvent, isWritten, eventInRange, numbersInRange}
 use Rattle.host.specs.Host.{answers, onEvent, hostInRange, hostTransition, HeardFits}
 
@@ -32,11 +33,7 @@ state-small Participant.Down = omega arith
 
 pub sent-small : (s : Sent) → sentNumber s < 256
 sent-small Sent.Nothing = omega arith
-sent-small (Sent.Sends Message.Request) = omega arith
-sent-small (Sent.Sends Message.ReplyYes) = omega arith
-sent-small (Sent.Sends Message.ReplyAbort) = omega arith
-sent-small (Sent.Sends Message.Commit) = omega arith
-sent-small (Sent.Sends Message.Abort) = omega arith
+sent-small (Sent.Sends m) = omega (arith, type-most m)
 
 -- the facts of numbers in range
 

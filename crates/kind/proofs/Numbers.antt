@@ -1,15 +1,17 @@
--- The numbers of kinds and steps and the ways back belong together, and what a number in range is. Assumes nothing.
+-- The numbers of kinds and steps and the ways back belong together, and what numbers in range are. Assumes nothing.
 use mathlib.Core.Path.{_≡_, refl}
-use mathlib.Core.Bool.{true}
-use Prim.Native.Nat.{ℕ, _≤_}
-use lib.Dec.{leb}
+use mathlib.Core.Bool.{true, _&&_}
+use Prim.Native.Nat.{ℕ, _+_, _≤_}
+use native.Mathlib.Omega.{arith}
+use lib.Dec.{leb, lit≤}
 use borrow.Author.Tests.{leb-true}
 use Rattle.number.specs.Numbering.{Inverse, Inverse3}
 use Rattle.number.proofs.Laws.{and-left, and-right, inverse, inverse3}
-use Rattle.message.proofs.Numbers.{message-numbers}
-use Rattle.kind.specs.Types.{Kind, Step}
-use Rattle.kind.specs.Kind.{kindNumber, kindOf}
-use Rattle.kind.specs.Step.{stepNumber, firstNumber, secondNumber, stepOf, numberInRange}
+use Rattle.message.specs.Message.{typeNumber}
+use Rattle.message.proofs.Numbers.{message-numbers, type-most}
+use Rattle.kind.specs.Types.{Message, Kind, Step}
+use Rattle.kind.specs.Kind.{kindNumber, kindOf, bodyLength}
+use Rattle.kind.specs.Step.{stepNumber, firstNumber, secondNumber, stepOf, isStep, numberInRange, inRange, numbersInRange}
 
 kind-back : (k : Kind) → kindOf (kindNumber k) ≡ k
 kind-back Kind.Header = refl
@@ -42,3 +44,59 @@ step-numbers = inverse3 stepNumber firstNumber secondNumber stepOf step-back
 
 pub between : (a k b : ℕ) → numberInRange a k b ≡ true → (a ≤ k) × (k ≤ b)
 between a k b q = (leb-true a k (and-left (leb a k) (leb k b) q), leb-true k b (and-right (leb a k) (leb k b) q))
+
+-- a kind's number is a byte, and its body has at most two numbers
+
+pub kind-most : (k : Kind) → kindNumber k ≤ 10
+kind-most Kind.Header = lit≤ tt
+kind-most Kind.Start = lit≤ tt
+kind-most Kind.Deliver = lit≤ tt
+kind-most Kind.Copy = lit≤ tt
+kind-most Kind.Lose = lit≤ tt
+kind-most Kind.Call = lit≤ tt
+kind-most Kind.CallLost = lit≤ tt
+kind-most Kind.Timeout = lit≤ tt
+kind-most Kind.Crash = lit≤ tt
+kind-most Kind.Restart = lit≤ tt
+
+pub body-most : (k : Kind) → bodyLength k ≤ 2
+body-most Kind.Header = lit≤ tt
+body-most Kind.Start = lit≤ tt
+body-most Kind.Deliver = lit≤ tt
+body-most Kind.Copy = lit≤ tt
+body-most Kind.Lose = lit≤ tt
+body-most Kind.Call = lit≤ tt
+body-most Kind.CallLost = lit≤ tt
+body-most Kind.Timeout = lit≤ tt
+body-most Kind.Crash = lit≤ tt
+body-most Kind.Restart = lit≤ tt
+
+-- the numbers of a step in range: a type is at most 5, all others at most n
+
+message-bounds : (n : ℕ) (m : Message) (p : ℕ) → numberInRange 1 p n ≡ true → (typeNumber m ≤ 5 + n) × (p ≤ n)
+message-bounds n m p q = let x = between 1 p n q in let t = type-most m in (omega arith, omega arith)
+
+call-bounds : (n p j : ℕ) → leb p n && numberInRange 1 j n ≡ true → (p ≤ 5 + n) × (j ≤ n)
+call-bounds n p j q =
+    let x = leb-true p n (and-left (leb p n) _ q) in
+    let y = between 1 j n (and-right (leb p n) _ q) in
+    (omega arith, omega arith)
+
+party-bounds : (n p : ℕ) → leb p n ≡ true → (p ≤ 5 + n) × (0 ≤ n)
+party-bounds n p q = let x = leb-true p n q in (omega arith, omega arith)
+
+step-bounds : (n : ℕ) (s : Step) → inRange n s ≡ true → (firstNumber s ≤ 5 + n) × (secondNumber s ≤ n)
+step-bounds n Step.Start q = (omega arith, omega arith)
+step-bounds n (Step.Deliver m p) q = message-bounds n m p q
+step-bounds n (Step.Copy m p) q = message-bounds n m p q
+step-bounds n (Step.Lose m p) q = message-bounds n m p q
+step-bounds n (Step.Call p j) q = call-bounds n p j q
+step-bounds n (Step.CallLost p j) q = call-bounds n p j q
+step-bounds n (Step.Timeout p) q = party-bounds n p q
+step-bounds n (Step.Crash p) q = party-bounds n p q
+step-bounds n (Step.Restart p) q = party-bounds n p q
+
+pub numbers-bounds : (n k a b : ℕ) → numbersInRange n k a b ≡ true → (a ≤ 5 + n) × (b ≤ n)
+numbers-bounds n k a b q =
+    let e = step-numbers .encoded k a b (and-left (isStep k a b) _ q) in
+    rw (e .1, e .2) at (step-bounds n (stepOf k a b) (and-right (isStep k a b) _ q))

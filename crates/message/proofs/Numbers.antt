@@ -1,5 +1,7 @@
 -- The numbers of messages and the way back belong together. Assumes nothing.
 use mathlib.Core.Path.{_≡_, refl}
+use Prim.Native.Nat.{_≤_}
+use lib.Dec.{lit≤}
 use Rattle.number.specs.Numbering.{Inverse}
 use Rattle.number.proofs.Laws.{inverse}
 use Rattle.message.specs.Types.{Message}
@@ -14,3 +16,10 @@ message-back Message.Abort = refl
 
 pub message-numbers : Inverse typeNumber messageOf
 message-numbers = inverse typeNumber messageOf message-back
+
+pub type-most : (m : Message) → typeNumber m ≤ 5
+type-most Message.Request = lit≤ tt
+type-most Message.ReplyYes = lit≤ tt
+type-most Message.ReplyAbort = lit≤ tt
+type-most Message.Commit = lit≤ tt
+type-most Message.Abort = lit≤ tt

@@ -31,11 +31,23 @@ numbers-in-range-requires c κs = search needs
 
 -- src/lib.rt:69:5
 returns : tie.Need-returns
-returns c = ?
+returns c =
+    simp (
+      c .in-range .ensures,
+      c .before .header .ensures,
+      c .before .before .if1 .taken,
+      ← c .before .before .before .is-header .ensures,
+    )
 
 -- src/lib.rt:69:5
 returns-2 : tie.Need-returns-2
-returns-2 c = ?
+returns-2 c =
+    simp (
+      ← c .numbers-in-range .ensures,
+      ← c .before .number .ensures,
+      c .before .before .if1 .left,
+      ← c .before .before .before .is-header .ensures,
+    )
 
 pub in-range-spec : {M : Type 1} → statement M
 in-range-spec =

@@ -1,3 +1,5 @@
+use native.Mathlib.Omega.{arith}
+use Rattle.kind.proofs.Numbers.{body-most}
 use borrow.Author.Needs.{needs}
 use Rattle.schedule.proofs.Record.length.Statement.{statement}
 use Rattle.schedule.proofs.Record.length.Tie as tie
@@ -11,7 +13,7 @@ body-requires c κs = search needs
 
 -- src/lib.rt:47:9
 add-result : tie.Need-add-result
-add-result c = ?
+add-result c = omega (arith, c .body .ensures, body-most (c .before .args .self .kind))
 
 -- src/lib.rt:43:5
 returns : tie.Need-returns

@@ -1,3 +1,4 @@
+use borrow.Author.Tests.{le-leb, lt-leb}
 use borrow.Author.Needs.{needs}
 use Rattle.schedule.proofs.reader.read_kind.Statement.{statement}
 use Rattle.schedule.proofs.reader.read_kind.Tie as tie
@@ -14,7 +15,7 @@ body-requires c κs = search needs
 
 -- src/reader.rt:76:9
 returns : tie.Need-returns
-returns c = ?
+returns c = simp (le-leb _ _ (c .if1 .taken), ← c .before .body .ensures)
 
 -- src/reader.rt:78:8
 admits-requires : tie.Need-admits-requires
@@ -34,11 +35,20 @@ read-body-requires c κs = search needs
 
 -- src/reader.rt:72:1
 returns-2 : tie.Need-returns-2
-returns-2 c = ?
+returns-2 c =
+    simp (
+      c .read-body .ensures,
+      c .before .body-number2 .ensures,
+      c .before .before .body-number .ensures,
+      c .before .before .before .if2 .taken,
+      ← c .before .before .before .before .admits .ensures,
+      lt-leb _ _ (c .before .before .before .before .before .if1 .left),
+      ← c .before .before .before .before .before .before .body .ensures,
+    )
 
 -- src/reader.rt:72:1
 returns-3 : tie.Need-returns-3
-returns-3 c = ?
+returns-3 c = simp (c .if2 .left, ← c .before .admits .ensures, lt-leb _ _ (c .before .before .if1 .left), ← c .before .before .before .body .ensures)
 
 pub read-kind-spec : {M : Type 1} → statement M
 read-kind-spec =

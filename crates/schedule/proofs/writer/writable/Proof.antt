@@ -1,3 +1,4 @@
+use borrow.Author.Tests.{le-leb, lt-leb}
 use borrow.Author.Needs.{needs}
 use Rattle.schedule.proofs.writer.writable.Statement.{statement}
 use Rattle.schedule.proofs.writer.writable.Tie as tie
@@ -15,11 +16,11 @@ in-range-requires c κs = search needs
 
 -- src/writer.rt:23:1
 returns : tie.Need-returns
-returns c = ?
+returns c = simp (← c .in-range .ensures, le-leb _ _ (c .before .if1 .taken))
 
 -- src/writer.rt:23:1
 returns-2 : tie.Need-returns-2
-returns-2 c = ?
+returns-2 c = simp (lt-leb _ _ (c .if1 .left))
 
 pub writable-spec : {M : Type 1} → statement M
 writable-spec = tie.close (tie.spec cast-in-range in-range-requires returns returns-2)

@@ -1,3 +1,5 @@
+use mathlib.Core.Path.{refl, sym, _∙_}
+use borrow.Author.Tests.{eq-eqb, ne-eqb}
 use borrow.Author.Needs.{needs}
 use Rattle.schedule.proofs.writer.write_record.Statement.{statement}
 use Rattle.schedule.proofs.writer.write_record.Tie as tie
@@ -25,11 +27,15 @@ same-length c = search needs
 
 -- src/writer.rt:67:1
 returns : tie.Need-returns
-returns c = ?
+returns c =
+    simp (
+      ← c .before .before .before .before .before .before .of .ensures,
+      eq-eqb _ _ (sym (c .before .before .before .before .before .number .ensures) ∙ c .before .before .before .before .if1 .taken),
+    ) (c .before .before .write-kind .ensures)
 
 -- src/writer.rt:67:1
 returns-2 : tie.Need-returns-2
-returns-2 c = ?
+returns-2 c = simp (ne-eqb _ _ (c .if1 .left), ← c .before .number .ensures, ← c .before .before .of .ensures) (refl, refl)
 
 pub write-record-spec : {M : Type 1} → statement M
 write-record-spec =

@@ -28,15 +28,21 @@ in-range-requires-3 c κs = search needs
 
 -- src/reader.rt:40:5
 returns : tie.Need-returns
-returns c = ?
+returns c = simp (← c .in-range .ensures, c .before .enum-told .given .1)
 
 -- src/reader.rt:40:5
 returns-2 : tie.Need-returns-2
-returns-2 c = ?
+returns-2 c =
+    simp (
+      ← c .in-range3 .ensures,
+      c .before .if1 .taken,
+      ← c .before .before .in-range2 .ensures,
+      c .before .before .before .before .self .given .1,
+    )
 
 -- src/reader.rt:40:5
 returns-3 : tie.Need-returns-3
-returns-3 c = ?
+returns-3 c = simp (c .if1 .left, ← c .before .in-range2 .ensures, c .before .before .before .self .given .1)
 
 pub in-range-spec : {M : Type 1} → statement M
 in-range-spec =

@@ -16,11 +16,11 @@ length-requires c κs = search needs
 
 -- src/reader.rt:49:5
 returns : tie.Need-returns
-returns c = ?
+returns c = simp (← c .length .ensures, c .before .if1 .taken, ← c .before .before .in-range .ensures)
 
 -- src/reader.rt:49:5
 returns-2 : tie.Need-returns-2
-returns-2 c = ?
+returns-2 c = simp (c .if1 .left, ← c .before .in-range .ensures)
 
 pub read-body-spec : {M : Type 1} → statement M
 read-body-spec = tie.close (tie.spec in-range-requires length-requires returns returns-2)
