@@ -1,17 +1,17 @@
 -- The numbers of kinds and steps and the ways back belong together, and what numbers in range are. Assumes nothing.
-use mathlib.Core.Path.{_≡_, refl}
-use mathlib.Core.Bool.{true, _&&_}
+use mathlib.Core.Path.{_≡_, refl, ap, _∙_}
+use mathlib.Core.Bool.{true, false, _&&_}
 use Prim.Native.Nat.{ℕ, _+_, _≤_}
 use native.Mathlib.Omega.{arith}
 use lib.Dec.{leb, lit≤}
 use borrow.Author.Tests.{leb-true}
 use Rattle.number.specs.Numbering.{Inverse, Inverse3}
-use Rattle.number.proofs.Laws.{and-left, and-right, inverse, inverse3}
+use Rattle.number.proofs.Laws.{and-left, and-right, and-true, inverse, inverse3, are-numbers3}
 use Rattle.message.specs.Message.{typeNumber}
 use Rattle.message.proofs.Numbers.{message-numbers, type-most}
 use Rattle.kind.specs.Types.{Message, Kind, Step}
-use Rattle.kind.specs.Kind.{kindNumber, kindOf, bodyLength}
-use Rattle.kind.specs.Step.{stepNumber, firstNumber, secondNumber, stepOf, isStep, numberInRange, inRange, numbersInRange}
+use Rattle.kind.specs.Kind.{kindNumber, kindOf, bodyLength, isHeader}
+use Rattle.kind.specs.Step.{stepKind, stepNumber, firstNumber, secondNumber, ofKind, stepOf, isStep, numberInRange, inRange, numbersInRange}
 
 kind-back : (k : Kind) → kindOf (kindNumber k) ≡ k
 kind-back Kind.Header = refl
@@ -41,6 +41,45 @@ step-back (Step.Restart p) = refl
 
 pub step-numbers : Inverse3 stepNumber firstNumber secondNumber stepOf
 step-numbers = inverse3 stepNumber firstNumber secondNumber stepOf step-back
+
+-- the same by kind, without its number
+
+pub kind-decoded : (s : Step) → ofKind (stepKind s) (firstNumber s) (secondNumber s) ≡ s
+kind-decoded s = rw (kind-numbers .decoded (stepKind s)) at (step-back s)
+
+pub kind-encoded : (k : Kind) (a b : ℕ) → isStep (kindNumber k) a b ≡ true → (firstNumber (ofKind k a b) ≡ a) × (secondNumber (ofKind k a b) ≡ b)
+kind-encoded k a b q =
+    let e = step-numbers .encoded (kindNumber k) a b q in
+    (rw (kind-numbers .decoded k) at (e .1), rw (kind-numbers .decoded k) at (e .2))
+
+pub step-no-header : (s : Step) → isHeader (stepKind s) ≡ false
+step-no-header Step.Start = refl
+step-no-header (Step.Deliver m p) = refl
+step-no-header (Step.Copy m p) = refl
+step-no-header (Step.Lose m p) = refl
+step-no-header (Step.Call p j) = refl
+step-no-header (Step.CallLost p j) = refl
+step-no-header (Step.Timeout p) = refl
+step-no-header (Step.Crash p) = refl
+step-no-header (Step.Restart p) = refl
+
+pub kind-of-step : (k : Kind) (a b : ℕ) → isHeader k ≡ false → stepKind (ofKind k a b) ≡ k
+kind-of-step Kind.Header a b q = cc
+kind-of-step Kind.Start a b q = refl
+kind-of-step Kind.Deliver a b q = refl
+kind-of-step Kind.Copy a b q = refl
+kind-of-step Kind.Lose a b q = refl
+kind-of-step Kind.Call a b q = refl
+kind-of-step Kind.CallLost a b q = refl
+kind-of-step Kind.Timeout a b q = refl
+kind-of-step Kind.Crash a b q = refl
+kind-of-step Kind.Restart a b q = refl
+
+-- the numbers of a step in range pass the test
+
+pub step-tested : (n : ℕ) (s : Step) → inRange n s ≡ true → numbersInRange n (stepNumber s) (firstNumber s) (secondNumber s) ≡ true
+step-tested n s q =
+    and-true _ _ (are-numbers3 stepNumber firstNumber secondNumber stepOf step-numbers s) (ap (inRange n) (step-numbers .decoded s) ∙ q)
 
 pub between : (a k b : ℕ) → numberInRange a k b ≡ true → (a ≤ k) × (k ≤ b)
 between a k b q = (leb-true a k (and-left (leb a k) (leb k b) q), leb-true k b (and-right (leb a k) (leb k b) q))

@@ -3,3 +3,4 @@ pub mod Record
 pub mod Reader
 pub mod Writer
 pub mod Schedule
+pub mod RoundTrip

@@ -16,7 +16,7 @@ use Rattle.coordinator.specs.Coordinator
 use Rattle.participant.proofs.Numbers.{participant-numbers}
 use Rattle.coordinator.proofs.Numbers.{coordinator-numbers}
 use Rattle.kind.specs.Step.{stepNumber, firstNumber, secondNumber, stepOf, inRange, numbersInRange}
-use Rattle.kind.proofs.Numbers.{step-numbers}
+use Rattle.kind.proofs.Numbers.{step-numbers, step-tested}
 use Rattle.rules.specs.State.{participantOf, logOf, firstOf, lastOf, waiting, fresh}
 use Rattle.rules.specs.Step.{step}
 use Rattle.rules.specs.Run.{after, Countable}
@@ -156,12 +156,8 @@ tail-in-range r h g k =
 single-follows : (r : Release) → r .n ≤ places → length (r .sites) ≡ places → length (r .store .logs) ≡ places → ReleaseInRange r → Countable (r .calls)
     → (s : Step) → inRange (r .n) s ≡ true → singleStep (tailOf r) (stepNumber s) (firstNumber s) (secondNumber s) ≡ handed (tailOf r) (step r s)
 single-follows r h l m g k s q =
-    sym (single-taken (tailOf r) (stepNumber s) (firstNumber s) (secondNumber s) (tail-in-range r h g k) taken)
+    sym (single-taken (tailOf r) (stepNumber s) (firstNumber s) (secondNumber s) (tail-in-range r h g k) (step-tested (r .n) s q))
     ∙ ap₂ (λ (x : Release) (y : Step). handed (tailOf r) (step x y)) (release-decoded r l m) (step-numbers .decoded s)
-  where
-    taken : numbersInRange (r .n) (stepNumber s) (firstNumber s) (secondNumber s) ≡ true
-    taken =
-        and-true _ _ (are-numbers3 stepNumber firstNumber secondNumber stepOf step-numbers s) (ap (inRange (r .n)) (step-numbers .decoded s) ∙ q)
 
 pub single-step-follows : SingleStepFollows
 single-step-follows n votes pos fits w steps h s q k =

@@ -1,0 +1,82 @@
+-- Nothing is lost between bytes and records, either way, and a refusal is the first from the left. Proved in proofs/RoundTrip.antt. Assumes nothing.
+use mathlib.Core.Path.{_≡_}
+use mathlib.Core.Bool.{Bool, true, _&&_}
+use mathlib.Core.List.{List, [], _∷_, _++_}
+use Prim.Native.Nat.{ℕ, _+_, _≤_, _<_}
+use lib.ListN.{length, take, drop}
+use lib.Seq.{sets}
+use Rattle.number.specs.Refusal.{emptyOrTooLong}
+use Rattle.kind.specs.Kind.{kindNumber}
+use Rattle.kind.specs.Step.{AllInRange}
+use Rattle.schedule.specs.Types.{Step, Header, Record, Before, Read, Written}
+use Rattle.schedule.specs.Record.{headerInRange, recordLength, longest}
+use Rattle.schedule.specs.Reader.{isPlaced, inRangeAfter, readerAnswers}
+use Rattle.schedule.specs.Writer.{writerAnswers, writerLeaves}
+use Rattle.schedule.specs.Schedule.{Reading, Accepted, Refused, readSchedule, scheduleBytes}
+
+-- One record, by what the reader and the writer promise
+
+-- a record that may come after this header, or as the header where there is none
+abbrev pub mayFollow : Before → Record → Bool
+mayFollow before r = isPlaced before (r .kind) && inRangeAfter before r
+
+abbrev pub answersFor : ℕ → ℕ → Record → Written
+answersFor room place r = writerAnswers room place (kindNumber (r .kind)) (r .first) (r .second)
+
+abbrev pub leavesFor : List ℕ → ℕ → Record → List ℕ
+leavesFor buffer place r = writerLeaves buffer place (kindNumber (r .kind)) (r .first) (r .second)
+
+-- what the writer puts, the reader yields
+abbrev pub ReadAfterWrite : Type 0
+ReadAfterWrite =
+    (buffer : List ℕ) (place : ℕ) (before : Before) (r : Record) → mayFollow before r ≡ true → place ≤ longest → place + recordLength r ≤ length buffer
+    → (answersFor (length buffer) place r ≡ Written.Done (place + recordLength r))
+    × (readerAnswers (drop place (leavesFor buffer place r)) before ≡ Read.Record r (recordLength r))
+
+-- what the reader yields, the writer puts: the bytes that were read
+abbrev pub WriteAfterRead : Type 0
+WriteAfterRead =
+    (bytes : List ℕ) (before : Before) (r : Record) (l : ℕ) → readerAnswers bytes before ≡ Read.Record r l
+    → (buffer : List ℕ) (place : ℕ) → place ≤ longest → place + l ≤ length buffer
+    → (answersFor (length buffer) place r ≡ Written.Done (place + l)) × (leavesFor buffer place r ≡ sets buffer place (take l bytes))
+
+-- A whole schedule
+
+-- every accepted schedule's bytes are the bytes of what was read
+abbrev pub BytesKept : Type 0
+BytesKept = (bytes : List ℕ) (h : Header) (steps : List Step) → readSchedule bytes ≡ Accepted h steps → scheduleBytes h steps ≡ bytes
+
+-- every header in range, with steps in range under it and within the longest schedule, is read back from its bytes
+abbrev pub StepsKept : Type 0
+StepsKept =
+    (h : Header) (steps : List Step) → headerInRange h ≡ true → AllInRange (h .n) steps → length (scheduleBytes h steps) ≤ longest
+    → readSchedule (scheduleBytes h steps) ≡ Accepted h steps
+
+-- and only such are accepted
+abbrev pub ReadInRange : Type 0
+ReadInRange =
+    (bytes : List ℕ) (h : Header) (steps : List Step) → readSchedule bytes ≡ Accepted h steps
+    → (headerInRange h ≡ true) × AllInRange (h .n) steps × (length bytes ≤ longest)
+
+-- the bytes of a schedule are bytes
+
+abbrev pub AllBytes : List ℕ → Type 0
+AllBytes [] = Unit {0}
+AllBytes (x ∷ xs) = (x < 256) × AllBytes xs
+
+abbrev pub BytesFit : Type 0
+BytesFit = (h : Header) (steps : List Step) → headerInRange h ≡ true → AllInRange (h .n) steps → AllBytes (scheduleBytes h steps)
+
+-- Refusals: too long; no header first; or, after a header and steps that are read, a record that the reader refuses. The place is that of the
+-- record's first byte
+pub data RefusalOf (bytes : List ℕ) : ℕ → ℕ → Type 0 where
+  too-long : longest < length bytes → RefusalOf bytes emptyOrTooLong 0
+  at-header : {k : ℕ} → length bytes ≤ longest → readerAnswers bytes Before.Nothing ≡ Read.Refused k 0 → RefusalOf bytes k 0
+  at-step : {k : ℕ} (h : Header) (steps : List Step) (rest : List ℕ) → length bytes ≤ longest → headerInRange h ≡ true → AllInRange (h .n) steps
+      → bytes ≡ scheduleBytes h steps ++ rest → 0 < length rest → readerAnswers rest (Before.Header h) ≡ Read.Refused k 0
+      → RefusalOf bytes k (length (scheduleBytes h steps))
+
+-- for every bytes exactly one outcome, since `readSchedule` is a function; a refusal is one of these, and each of these is refused
+pub record FirstRefusal : Type 0 where
+  pub found : (bytes : List ℕ) (k place : ℕ) → readSchedule bytes ≡ Refused k place → RefusalOf bytes k place
+  pub given : (bytes : List ℕ) (k place : ℕ) → RefusalOf bytes k place → readSchedule bytes ≡ Refused k place
