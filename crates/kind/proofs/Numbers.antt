@@ -4,7 +4,7 @@ use mathlib.Core.Bool.{true, false, _&&_}
 use Prim.Native.Nat.{ℕ, _+_, _≤_}
 use native.Mathlib.Omega.{arith}
 use lib.Dec.{leb, lit≤}
-use borrow.Author.Tests.{leb-true}
+use borrow.Author.Tests.{leb-true, le-leb}
 use Rattle.number.specs.Numbering.{Inverse, Inverse3}
 use Rattle.number.proofs.Laws.{and-left, and-right, and-true, inverse, inverse3, are-numbers3}
 use Rattle.message.specs.Message.{typeNumber}
@@ -139,3 +139,29 @@ pub numbers-bounds : (n k a b : ℕ) → numbersInRange n k a b ≡ true → (a 
 numbers-bounds n k a b q =
     let e = step-numbers .encoded k a b (and-left (isStep k a b) _ q) in
     rw (e .1, e .2) at (step-bounds n (stepOf k a b) (and-right (isStep k a b) _ q))
+
+-- a step in range for n is in range for more
+
+more-numbers : (low k n m : ℕ) → n ≤ m → numberInRange low k n ≡ true → numberInRange low k m ≡ true
+more-numbers low k n m h q = let x = between low k n q in and-true _ _ (le-leb low k (x .0)) (le-leb k m (omega arith))
+
+more-parties : (p n m : ℕ) → n ≤ m → leb p n ≡ true → leb p m ≡ true
+more-parties p n m h q = le-leb p m (omega (arith, leb-true p n q))
+
+more-calls : (p j n m : ℕ) → n ≤ m → leb p n && numberInRange 1 j n ≡ true → leb p m && numberInRange 1 j m ≡ true
+more-calls p j n m h q =
+    and-true _ _ (more-parties p n m h (and-left (leb p n) _ q)) (more-numbers 1 j n m h (and-right (leb p n) _ q))
+
+more-steps : (n m : ℕ) → n ≤ m → (s : Step) → inRange n s ≡ true → inRange m s ≡ true
+more-steps n m h Step.Start q = refl
+more-steps n m h (Step.Deliver x p) q = more-numbers 1 p n m h q
+more-steps n m h (Step.Copy x p) q = more-numbers 1 p n m h q
+more-steps n m h (Step.Lose x p) q = more-numbers 1 p n m h q
+more-steps n m h (Step.Call p j) q = more-calls p j n m h q
+more-steps n m h (Step.CallLost p j) q = more-calls p j n m h q
+more-steps n m h (Step.Timeout p) q = more-parties p n m h q
+more-steps n m h (Step.Crash p) q = more-parties p n m h q
+more-steps n m h (Step.Restart p) q = more-parties p n m h q
+
+pub more-tested : (n m : ℕ) → n ≤ m → (k a b : ℕ) → numbersInRange n k a b ≡ true → numbersInRange m k a b ≡ true
+more-tested n m h k a b q = and-true _ _ (and-left (isStep k a b) _ q) (more-steps n m h (stepOf k a b) (and-right (isStep k a b) _ q))

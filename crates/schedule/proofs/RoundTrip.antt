@@ -8,22 +8,22 @@ use native.Mathlib.Omega.{arith}
 use native.Mathlib.Nat.{add-zero}
 use lib.Dec.{eqb, leb, ltb}
 use lib.ListN.{length, getD, take, drop, length-append, length-drop}
-use lib.Seq.{sets, sets-eq, take-at, drop-at}
+use lib.Seq.{sets, sets-eq, length-take-le, take-at, drop-at}
 use borrow.Author.Tests.{ltb-true, ltb-false, lt-ltb, le-ltb, le-leb, eq-eqb}
 use Rattle.number.specs.Refusal.{emptyOrTooLong}
 use Rattle.number.proofs.Laws.{and-left, and-right, and-true}
 use Rattle.store.specs.Log.{places}
 use Rattle.kind.specs.Kind.{kindNumber, kindOf, isKind, bodyLength, isHeader}
 use Rattle.kind.specs.Step.{inRange, AllInRange}
-use Rattle.kind.proofs.Numbers.{kind-numbers, kind-decoded}
+use Rattle.kind.proofs.Numbers.{kind-decoded, kind-most}
 use Rattle.schedule.specs.Types.{Kind, Step, Header, Record, Before, Read, Written}
 use Rattle.schedule.specs.Record.{headerRecord, recordHeader, stepRecord, recordStep, headerInRange, recordInRange, recordLength, recordBytes, longest}
 use Rattle.schedule.specs.Reader.{bodyNumber, isPlaced, inRangeAfter, kindAnswer, readerAnswers}
 use Rattle.schedule.specs.Writer.{isWritable}
 use Rattle.schedule.specs.Schedule.{Reading, Accepted, Refused, withStep, andThen, stepsFrom, stepsAfter, readSchedule, stepsBytes, scheduleBytes}
-use Rattle.schedule.specs.RoundTrip.{mayFollow, ReadAfterWrite, WriteAfterRead, BytesKept, StepsKept, ReadInRange, AllBytes, BytesFit, RefusalOf, too-long, at-header, at-step, FirstRefusal}
+use Rattle.schedule.specs.RoundTrip.{mayFollow, leavesFor, ReadAfterWrite, WriteAfterRead, BytesKept, StepsKept, ReadInRange, AllBytes, BytesFit, RefusalOf, too-long, at-header, at-step, FirstRefusal}
 use Rattle.schedule.proofs.Laws.{header-size, record-bytes}
-use Rattle.schedule.proofs.Records.{record-length, read-front, Yielded, read-yielded, step-follows, record-step}
+use Rattle.schedule.proofs.Records.{record-length, read-front, Yielded, read-yielded, step-follows, record-step, written}
 
 -- Reading on
 
@@ -237,3 +237,79 @@ bytes-kept bytes h steps e = subst (SaysWhole bytes) e (read-says bytes) .0
 
 pub read-in-range : ReadInRange
 read-in-range bytes h steps e = let x = subst (SaysWhole bytes) e (read-says bytes) in (x .1, x .2, x .3)
+
+-- Refusals
+
+refused-first : (h : Header) (place : ℕ) (rest : List ℕ) (k : ℕ) → 0 < length rest → readerAnswers rest (Before.Header h) ≡ Read.Refused k 0
+    → stepsFrom h place rest 0 ≡ Refused k place
+unfolding stepsFrom
+refused-first h place [] k some e = absurd (omega arith)
+refused-first h place (x ∷ rest) k some e =
+    ap (λ y. andThen place y (stepsFrom h (suc place) rest)) e ∙ ap (Refused k) (add-zero place)
+
+still-refused : (steps : List Step) (k place : ℕ) → withSteps steps (Refused k place) ≡ Refused k place
+still-refused [] k place = refl
+still-refused (s ∷ ss) k place = ap (withStep s) (still-refused ss k place)
+
+is-refused : (bytes : List ℕ) (k place : ℕ) → RefusalOf bytes k place → readSchedule bytes ≡ Refused k place
+is-refused bytes k place (too-long h) = simp (lt-ltb longest (length bytes) h)
+is-refused bytes k place (at-header fits e) = simp (le-ltb longest (length bytes) fits, e)
+is-refused bytes k place (at-step h steps rest fits g q split some e) =
+    let n : ℕ = 3 + length (stepsBytes steps) in
+    ap readSchedule split
+    ∙ after-header h g (stepsBytes steps ++ rest) (subst (λ b. length b ≤ longest) split fits)
+    ∙ first-steps h g steps q 3 rest
+    ∙ ap (withSteps steps) (refused-first h n rest k some e)
+    ∙ still-refused steps k n
+    ∙ ap (Refused k) (three-more (length (stepsBytes steps)))
+
+pub first-refusal : FirstRefusal
+first-refusal = record { found = λ bytes k place e. subst (SaysWhole bytes) e (read-says bytes); given = is-refused }
+
+-- Bytes
+
+all-append : (xs ys : List ℕ) → AllBytes xs → AllBytes ys → AllBytes (xs ++ ys)
+all-append [] ys p q = q
+all-append (x ∷ xs) ys p q = (p .0, all-append xs ys (p .1) q)
+
+all-take : (n : ℕ) (xs : List ℕ) → AllBytes xs → AllBytes (take n xs)
+all-take zero xs p = tt
+all-take (suc n) [] p = tt
+all-take (suc n) (x ∷ xs) p = (p .0, all-take n xs (p .1))
+
+record-fits : (n : ℕ) (r : Record) → n ≤ places → recordInRange n r ≡ true → AllBytes (recordBytes r)
+record-fits n r h q =
+    let b = record-bytes n r h q in
+    (omega (arith, kind-most (r .kind)), all-take (bodyLength (r .kind)) (r .first ∷ r .second ∷ []) (b .0, (b .1, tt)))
+
+steps-fit : (h : Header) → headerInRange h ≡ true → (steps : List Step) → AllInRange (h .n) steps → AllBytes (stepsBytes steps)
+steps-fit h g [] q = tt
+steps-fit h g (s ∷ ss) q =
+    let r : Record = stepRecord s in
+    let ranged = and-right (headerInRange h) _ (and-right (isPlaced (Before.Header h) (r .kind)) _ (step-follows h s g (q .0))) in
+    all-append (recordBytes r) (stepsBytes ss) (record-fits (h .n) r (header-size h g .1) ranged) (steps-fit h g ss (q .1))
+
+pub bytes-fit : BytesFit
+bytes-fit h steps g q =
+    all-append (recordBytes (headerRecord h)) (stepsBytes steps) (record-fits 0 (headerRecord h) (omega arith) g) (steps-fit h g steps q)
+
+-- One record through the writer and the reader
+
+pub read-after-write : ReadAfterWrite
+read-after-write buffer place before r q near room =
+    let w = written buffer place before r q near room in
+    let long : length (recordBytes r) ≡ recordLength r = record-length r in
+    let rest : List ℕ = drop (place + length (recordBytes r)) buffer in
+    let put : leavesFor buffer place r ≡ take place buffer ++ (recordBytes r ++ rest) =
+        w .1 ∙ sets-eq (recordBytes r) buffer place (omega arith) ∙ append-assoc (take place buffer) (recordBytes r) rest in
+    let there : drop place (leavesFor buffer place r) ≡ recordBytes r ++ rest =
+        ap (drop place) put ∙ drop-at (take place buffer) (recordBytes r ++ rest) place (length-take-le place buffer (omega arith)) in
+    (w .0, ap (λ b. readerAnswers b before) there ∙ read-front before r rest q)
+
+pub write-after-read : WriteAfterRead
+write-after-read bytes before r l e buffer place near room =
+    let y = read-yielded bytes before r l e in
+    let w = written buffer place before r (y .follows) near (subst (λ n. place + n ≤ length buffer) (y .size) room) in
+    let same : take l bytes ≡ recordBytes r =
+        ap (take l) (y .front) ∙ take-at (recordBytes r) (drop l bytes) l (record-length r ∙ sym (y .size)) in
+    (w .0 ∙ ap (λ n. Written.Done (place + n)) (sym (y .size)), w .1 ∙ ap (sets buffer place) (sym same))
