@@ -1,8 +1,8 @@
 -- One record: what stands in the bytes that the reader takes it from, and that the reader takes it from its bytes. Assumes nothing.
-use mathlib.Core.Path.{_≡_, refl, sym, ap, ap₂, _∙_}
-use mathlib.Core.Bool.{Bool, true, false, cond, _&&_, not}
+use mathlib.Core.Path.{_≡_, refl, sym, ap, _∙_}
+use mathlib.Core.Bool.{Bool, true, false, cond, not}
 use mathlib.Core.List.{List, [], _∷_, _++_}
-use Prim.Native.Nat.{ℕ, suc, _+_, _≤_, _<_}
+use Prim.Native.Nat.{ℕ, _+_, _≤_, _<_}
 use native.Mathlib.Omega.{arith}
 use lib.Dec.{eqb, leb}
 use lib.ListN.{length, getD, take, drop, length-append}
@@ -13,10 +13,10 @@ use Rattle.number.proofs.Laws.{and-left, and-right, and-true, is-number}
 use Rattle.store.specs.Log.{places}
 use Rattle.kind.specs.Kind.{kindNumber, kindOf, isKind, bodyLength, isHeader}
 use Rattle.kind.specs.Step.{isStep, ofKind, inRange, numbersInRange}
-use Rattle.kind.proofs.Numbers.{kind-numbers, kind-encoded, kind-decoded, kind-of-step, step-no-header, step-tested, more-tested}
+use Rattle.kind.proofs.Numbers.{kind-numbers, kind-encoded, kind-of-step, step-no-header, step-tested, more-tested}
 use Rattle.schedule.specs.Types.{Kind, Step, Header, Record, Before, Read, Written}
 use Rattle.schedule.specs.Record.{recordOf, recordHeader, recordStep, stepRecord, headerInRange, recordInRange, recordLength, recordBytes, longest}
-use Rattle.schedule.specs.Reader.{refused, bodyNumber, isPlaced, inRangeAfter, bodyAnswer, kindAnswer, readerAnswers}
+use Rattle.schedule.specs.Reader.{refused, bodyNumber, isPlaced, inRangeAfter, kindAnswer, readerAnswers}
 use Rattle.schedule.specs.Writer.{isWritable, roomAnswer, recordAnswer, leaves}
 use Rattle.schedule.specs.RoundTrip.{mayFollow, answersFor, leavesFor}
 use Rattle.schedule.proofs.Laws.{header-size}

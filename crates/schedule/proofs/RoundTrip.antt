@@ -7,23 +7,22 @@ use Prim.Native.Nat.{ℕ, zero, suc, _+_, _-_, _≤_, _<_}
 use native.Mathlib.Omega.{arith}
 use native.Mathlib.Nat.{add-zero}
 use lib.Dec.{eqb, leb, ltb}
-use lib.ListN.{length, getD, take, drop, length-append, length-drop}
+use lib.ListN.{length, getD, take, drop, length-append}
 use lib.Seq.{sets, sets-eq, length-take-le, take-at, drop-at}
-use borrow.Author.Tests.{ltb-true, ltb-false, lt-ltb, le-ltb, le-leb, eq-eqb}
+use borrow.Author.Tests.{ltb-true, ltb-false, lt-ltb, le-ltb}
 use Rattle.number.specs.Refusal.{emptyOrTooLong}
-use Rattle.number.proofs.Laws.{and-left, and-right, and-true}
+use Rattle.number.proofs.Laws.{and-left, and-right}
 use Rattle.store.specs.Log.{places}
-use Rattle.kind.specs.Kind.{kindNumber, kindOf, isKind, bodyLength, isHeader}
-use Rattle.kind.specs.Step.{inRange, AllInRange}
+use Rattle.kind.specs.Kind.{kindOf, isKind, bodyLength, isHeader}
+use Rattle.kind.specs.Step.{AllInRange}
 use Rattle.kind.proofs.Numbers.{kind-decoded, kind-most}
 use Rattle.schedule.specs.Types.{Kind, Step, Header, Record, Before, Read, Written}
 use Rattle.schedule.specs.Record.{headerRecord, recordHeader, stepRecord, recordStep, headerInRange, recordInRange, recordLength, recordBytes, longest}
 use Rattle.schedule.specs.Reader.{bodyNumber, isPlaced, inRangeAfter, kindAnswer, readerAnswers}
-use Rattle.schedule.specs.Writer.{isWritable}
 use Rattle.schedule.specs.Schedule.{Reading, Accepted, Refused, withStep, andThen, stepsFrom, stepsAfter, readSchedule, stepsBytes, scheduleBytes}
 use Rattle.schedule.specs.RoundTrip.{mayFollow, leavesFor, ReadAfterWrite, WriteAfterRead, BytesKept, StepsKept, ReadInRange, AllBytes, BytesFit, RefusalOf, too-long, at-header, at-step, FirstRefusal}
 use Rattle.schedule.proofs.Laws.{header-size, record-bytes}
-use Rattle.schedule.proofs.Records.{record-length, read-front, Yielded, read-yielded, step-follows, record-step, written}
+use Rattle.schedule.proofs.Records.{record-length, read-front, read-yielded, step-follows, record-step, written}
 
 -- Reading on
 

@@ -12,7 +12,7 @@ use Rattle.schedule.specs.Types.{Step, Header, Record, Before, Read, Wri
 use Rattle.schedule.specs.Record.{headerInRange, recordLength, longest}
 use Rattle.schedule.specs.Reader.{isPlaced, inRangeAfter, readerAnswers}
 use Rattle.schedule.specs.Writer.{writerAnswers, writerLeaves}
-use Rattle.schedule.specs.Schedule.{Reading, Accepted, Refused, readSchedule, scheduleBytes}
+use Rattle.schedule.specs.Schedule.{Accepted, Refused, readSchedule, scheduleBytes}
 
 -- One record, by what the reader and the writer promise
 

@@ -7,7 +7,7 @@ use native.Mathlib.Omega.{arith}
 use lib.Dec.{eqb, leb, ltb}
 use lib.ListN.{length, length-replicate, getD}
 use borrow.Author.Tests.{ltb-true, ltb-false, leb-false, eqb-true, lt-ltb, le-leb}
-use Rattle.number.proofs.Laws.{and-left, and-right, and-true, is-number, are-numbers, are-numbers3}
+use Rattle.number.proofs.Laws.{and-left, and-right, and-true, is-number, are-numbers}
 use Rattle.mask.specs.Mask.{within}
 use Rattle.store.specs.Log.{recordNumber, recordOf, isRecord, isAllowed, empty, places}
 use Rattle.store.proofs.Numbers.{record-numbers}
@@ -15,13 +15,13 @@ use Rattle.participant.specs.Participant
 use Rattle.coordinator.specs.Coordinator
 use Rattle.participant.proofs.Numbers.{participant-numbers}
 use Rattle.coordinator.proofs.Numbers.{coordinator-numbers}
-use Rattle.kind.specs.Step.{stepNumber, firstNumber, secondNumber, stepOf, inRange, numbersInRange}
+use Rattle.kind.specs.Step.{stepNumber, firstNumber, secondNumber, inRange, numbersInRange}
 use Rattle.kind.proofs.Numbers.{step-numbers, step-tested}
 use Rattle.rules.specs.State.{participantOf, logOf, firstOf, lastOf, waiting, fresh}
 use Rattle.rules.specs.Step.{step}
 use Rattle.rules.specs.Run.{after, Countable}
 use Rattle.rules.specs.Range.{ReleaseInRange}
-use Rattle.tail.specs.Tail.{tabulate, every, fieldsOf, tailOf, siteOf, pairOf, fieldsAt, releaseOf, recordsInRange, fieldsZero, participantInRange, participantsInRange, countInRange, tailInRange, TailNumbers}
+use Rattle.tail.specs.Tail.{tabulate, fieldsOf, tailOf, siteOf, pairOf, fieldsAt, releaseOf, recordsInRange, fieldsZero, participantInRange, participantsInRange, countInRange, tailInRange, TailNumbers}
 use Rattle.tail.specs.Single.{handed, singleStep, SingleStepFollows}
 use Rattle.tail.specs.Types.{LogPair, Message, Participant, Coordinator, Site, Release, Step, Tail, ParticipantFields}
 use Rattle.tail.proofs.Tabulate.{getD-tabulate, tabulate-list, every-at, every-all}

@@ -1,0 +1,189 @@
+-- Worked inputs: whole schedules, document 01's P7 to P12 among them, one record after a header, and the writer. One theorem covers each table.
+-- Assumes nothing.
+use mathlib.Core.Path.{_≡_, refl, ap}
+use mathlib.Core.Bool.{Bool, true, _&&_}
+use mathlib.Core.List.{List, [], _∷_}
+use Prim.Native.Nat.{ℕ, zero, suc}
+use native.Mathlib.Omega.{arith}
+use lib.Dec.{eqb}
+use lib.ListN.{length, replicate}
+use Rattle.number.specs.Refusal.{accepted, emptyOrTooLong, unknownKind, bodyCutShort, headerMisplaced, outOfRange, tooShort}
+use Rattle.kind.specs.Step.{AllInRange}
+use Rattle.schedule.specs.Types.{Step, Header, Before, Read, Written}
+use Rattle.schedule.specs.Reader.{readerAnswers}
+use Rattle.schedule.specs.Writer.{writerAnswers}
+use Rattle.schedule.specs.Schedule.{Reading, Accepted, Refused, stepsFrom, readSchedule, stepsBytes, scheduleBytes}
+use Rattle.schedule.specs.RoundTrip.{too-long}
+use Rattle.schedule.proofs.RoundTrip.{steps-kept, first-refusal}
+
+-- an outcome in numbers: the refusal's number or 0, and a value
+
+record Outcome : Type 0 where
+  number : ℕ
+  value : ℕ
+
+abbrev same : Outcome → Outcome → Bool
+same x y = eqb (x .number) (y .number) && eqb (x .value) (y .value)
+
+abbrev allHold : {A : Type 0} → (A → Bool) → List A → Bool
+allHold holds [] = true
+allHold holds (c ∷ cs) = holds c && allHold holds cs
+
+-- Whole schedules: 0 and how many steps there are, or the refusal's number and place
+
+abbrev readingOutcome : Reading → Outcome
+readingOutcome (Accepted h steps) = record { number = accepted; value = length steps }
+readingOutcome (Refused k place) = record { number = k; value = place }
+
+record ScheduleCase : Type 0 where
+  bytes : List ℕ
+  outcome : Outcome
+
+abbrev schedule : List ℕ → ℕ → ℕ → ScheduleCase
+schedule bytes k v = record { bytes = bytes; outcome = record { number = k; value = v } }
+
+abbrev schedules : List ScheduleCase
+schedules =
+    -- P7 to P12
+    schedule [] emptyOrTooLong 0
+    ∷ schedule (1 ∷ 8 ∷ 255 ∷ []) accepted 0
+    ∷ schedule (1 ∷ 9 ∷ 0 ∷ []) outOfRange 0
+    ∷ schedule (1 ∷ 1 ∷ 2 ∷ []) outOfRange 0
+    ∷ schedule (2 ∷ []) headerMisplaced 0
+    ∷ schedule (1 ∷ 1 ∷ 1 ∷ 6 ∷ 1 ∷ []) bodyCutShort 3
+    -- every kind
+    ∷ schedule (1 ∷ 1 ∷ 1 ∷ 2 ∷ 3 ∷ 1 ∷ 1 ∷ 4 ∷ 5 ∷ 1 ∷ 5 ∷ 2 ∷ 1 ∷ 6 ∷ 0 ∷ 1 ∷ 7 ∷ 1 ∷ 1 ∷ 8 ∷ 0 ∷ 9 ∷ 1 ∷ 10 ∷ 1 ∷ []) accepted 9
+    -- order of each record: 2 before 4; 3 before 4, first and later; 4 before 5
+    ∷ schedule (255 ∷ []) unknownKind 0
+    ∷ schedule (0 ∷ 1 ∷ 1 ∷ []) unknownKind 0
+    ∷ schedule (3 ∷ []) bodyCutShort 0
+    ∷ schedule (3 ∷ 9 ∷ 9 ∷ []) headerMisplaced 0
+    ∷ schedule (1 ∷ 1 ∷ 1 ∷ 1 ∷ 0 ∷ []) bodyCutShort 3
+    ∷ schedule (1 ∷ 1 ∷ 1 ∷ 1 ∷ 0 ∷ 0 ∷ []) headerMisplaced 3
+    ∷ schedule (1 ∷ 1 ∷ []) bodyCutShort 0
+    -- numbers: n 0; type 0 and 6; participant 0 and n + 1; log 0 and n + 1; party n + 1
+    ∷ schedule (1 ∷ 0 ∷ 0 ∷ []) outOfRange 0
+    ∷ schedule (1 ∷ 2 ∷ 3 ∷ 3 ∷ 0 ∷ 1 ∷ []) outOfRange 3
+    ∷ schedule (1 ∷ 2 ∷ 3 ∷ 3 ∷ 6 ∷ 1 ∷ []) outOfRange 3
+    ∷ schedule (1 ∷ 2 ∷ 3 ∷ 4 ∷ 1 ∷ 0 ∷ []) outOfRange 3
+    ∷ schedule (1 ∷ 2 ∷ 3 ∷ 5 ∷ 1 ∷ 3 ∷ []) outOfRange 3
+    ∷ schedule (1 ∷ 2 ∷ 3 ∷ 6 ∷ 0 ∷ 0 ∷ []) outOfRange 3
+    ∷ schedule (1 ∷ 2 ∷ 3 ∷ 7 ∷ 2 ∷ 3 ∷ []) outOfRange 3
+    ∷ schedule (1 ∷ 2 ∷ 3 ∷ 6 ∷ 3 ∷ 1 ∷ []) outOfRange 3
+    ∷ schedule (1 ∷ 2 ∷ 3 ∷ 8 ∷ 3 ∷ []) outOfRange 3
+    -- the first refusal from the left
+    ∷ schedule (1 ∷ 1 ∷ 1 ∷ 2 ∷ 8 ∷ 2 ∷ 11 ∷ []) outOfRange 4
+    ∷ schedule (1 ∷ 1 ∷ 1 ∷ 2 ∷ 8 ∷ 1 ∷ 11 ∷ []) unknownKind 6
+    ∷ []
+
+schedules-hold : allHold (λ c. same (readingOutcome (readSchedule (c .bytes))) (c .outcome)) schedules ≡ true
+unfolding stepsFrom
+schedules-hold = refl
+
+-- 32,768 bytes are read: a header and 32,765 starts. One start more is refused
+
+starts-length : (m : ℕ) → length (stepsBytes (replicate m Step.Start)) ≡ m
+starts-length zero = refl
+starts-length (suc m) = ap suc (starts-length m)
+
+starts-in-range : (n m : ℕ) → AllInRange n (replicate m Step.Start)
+starts-in-range n zero = tt
+starts-in-range n (suc m) = (refl, starts-in-range n m)
+
+abbrev oneParticipant : Header
+oneParticipant = record { n = 1; votes = 1 }
+
+longest-read : readSchedule (scheduleBytes oneParticipant (replicate 32765 Step.Start)) ≡ Accepted oneParticipant (replicate 32765 Step.Start)
+longest-read =
+    steps-kept oneParticipant (replicate 32765 Step.Start) refl (starts-in-range 1 32765) (omega (arith, starts-length 32765))
+
+longer-refused : readSchedule (scheduleBytes oneParticipant (replicate 32766 Step.Start)) ≡ Refused emptyOrTooLong 0
+longer-refused =
+    first-refusal .given (scheduleBytes oneParticipant (replicate 32766 Step.Start)) emptyOrTooLong 0 (too-long (omega (arith, starts-length 32766)))
+
+-- One record after a header: 0 and its length, or the refusal's number and place
+
+abbrev readOutcome : Read → Outcome
+readOutcome (Read.Record r l) = record { number = accepted; value = l }
+readOutcome (Read.Refused k place) = record { number = k; value = place }
+
+record ReadCase : Type 0 where
+  bytes : List ℕ
+  n : ℕ
+  votes : ℕ
+  outcome : Outcome
+
+abbrev read : List ℕ → ℕ → ℕ → ℕ → ℕ → ReadCase
+read bytes n votes k v = record { bytes = bytes; n = n; votes = votes; outcome = record { number = k; value = v } }
+
+abbrev reads : List ReadCase
+reads =
+    -- what follows the record is not looked at
+    read (8 ∷ 1 ∷ 255 ∷ 255 ∷ []) 1 0 accepted 2
+    ∷ read (2 ∷ 255 ∷ []) 8 255 accepted 1
+    -- no bytes; a header told that is out of range is refused last
+    ∷ read [] 1 0 emptyOrTooLong 0
+    ∷ read (2 ∷ []) 0 0 outOfRange 0
+    ∷ read (2 ∷ []) 9 0 outOfRange 0
+    ∷ read (2 ∷ []) 4294967295 0 outOfRange 0
+    ∷ read (2 ∷ []) 1 2 outOfRange 0
+    ∷ read (11 ∷ []) 9 0 unknownKind 0
+    ∷ read (6 ∷ 1 ∷ []) 9 0 bodyCutShort 0
+    ∷ read (1 ∷ 1 ∷ 1 ∷ []) 9 0 headerMisplaced 0
+    ∷ []
+
+reads-hold : allHold (λ c. same (readOutcome (readerAnswers (c .bytes) (Before.Header (record { n = c .n; votes = c .votes })))) (c .outcome)) reads ≡ true
+reads-hold = refl
+
+-- The writer: 0 and the place after the record, or the refusal's number with the place given or the length needed
+
+abbrev writtenOutcome : Written → Outcome
+writtenOutcome (Written.Done end) = record { number = accepted; value = end }
+writtenOutcome (Written.Refused k v) = record { number = k; value = v }
+
+record WriteCase : Type 0 where
+  room : ℕ
+  place : ℕ
+  kind : ℕ
+  first : ℕ
+  second : ℕ
+  outcome : Outcome
+
+abbrev write : ℕ → ℕ → ℕ → ℕ → ℕ → ℕ → ℕ → WriteCase
+write room place kind a b k v =
+    record { room = room; place = place; kind = kind; first = a; second = b; outcome = record { number = k; value = v } }
+
+abbrev writes : List WriteCase
+writes =
+    -- it knows no n: participants and logs 1 to 8, parties 0 to 8; a header by its own n
+    write 3 0 1 8 255 accepted 3
+    ∷ write 3 0 1 8 256 outOfRange 0
+    ∷ write 3 0 1 9 0 outOfRange 0
+    ∷ write 3 0 1 1 2 outOfRange 0
+    ∷ write 9 5 3 5 8 accepted 8
+    ∷ write 9 5 3 5 9 outOfRange 5
+    ∷ write 9 5 3 6 1 outOfRange 5
+    ∷ write 9 5 6 8 8 accepted 8
+    ∷ write 9 5 6 0 0 outOfRange 5
+    ∷ write 9 5 7 9 1 outOfRange 5
+    ∷ write 9 5 10 8 0 accepted 7
+    -- unused numbers are 0
+    ∷ write 9 5 2 0 0 accepted 6
+    ∷ write 9 5 2 1 0 outOfRange 5
+    ∷ write 9 5 2 0 1 outOfRange 5
+    ∷ write 9 5 8 1 1 outOfRange 5
+    -- places 0 to 32,768; an unknown kind comes before a place out of range
+    ∷ write 40000 32768 3 1 1 accepted 32771
+    ∷ write 40000 32769 3 1 1 outOfRange 32769
+    ∷ write 40000 32769 0 0 0 unknownKind 32769
+    ∷ write 40000 7 4294967295 0 0 unknownKind 7
+    -- too short after 2 and 5: the length needed
+    ∷ write 0 0 2 0 0 tooShort 1
+    ∷ write 2 0 1 1 1 tooShort 3
+    ∷ write 32768 32768 9 0 0 tooShort 32770
+    ∷ write 0 0 11 0 0 unknownKind 0
+    ∷ write 0 0 8 9 0 outOfRange 0
+    ∷ []
+
+writes-hold : allHold (λ c. same (writtenOutcome (writerAnswers (c .room) (c .place) (c .kind) (c .first) (c .second))) (c .outcome)) writes ≡ true
+writes-hold = refl
