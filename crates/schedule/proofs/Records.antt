@@ -145,11 +145,11 @@ module _ (bytes : List ℕ) (before : Before) where
       let ranged = record-left (inRangeAfter before (recordIn bytes k)) _ outOfRange r l (placed .1) in
       let same = same-record (recordIn bytes k) r (recordLength (recordIn bytes k)) l (ranged .1) in
       let found : Yielded bytes before (recordIn bytes k) (recordLength (recordIn bytes k)) =
-          record {
-            follows = and-true _ _ (placed .0) (ranged .0);
-            size = refl;
-            front = begins bytes k (leb-false (length bytes) (bodyLength k) (long .0)) e;
-          } in
+      record {
+        follows = and-true _ _ (placed .0) (ranged .0);
+        size = refl;
+        front = begins bytes k (leb-false (length bytes) (bodyLength k) (long .0)) e;
+      } in
       rw (same .0, same .1) at found
 
   pub read-yielded : (r : Record) (l : ℕ) → readerAnswers bytes before ≡ Read.Record r l → Yielded bytes before r l

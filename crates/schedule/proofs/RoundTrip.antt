@@ -44,7 +44,7 @@ first-step h place r rest q =
     let next : suc place + length body ≡ place + recordLength r = omega (arith, record-length r) in
     ap (λ x. andThen place x (stepsFrom h (suc place) (body ++ rest))) (read-front (Before.Header h) r rest q)
     ∙ ap (withStep (recordStep r))
-      (ap (stepsFrom h (suc place) (body ++ rest)) (sym long) ∙ passed h (suc place) body rest ∙ ap (λ p. stepsFrom h p rest 0) next)
+    (ap (stepsFrom h (suc place) (body ++ rest)) (sym long) ∙ passed h (suc place) body rest ∙ ap (λ p. stepsFrom h p rest 0) next)
 
 -- the same for a list of steps
 
@@ -59,7 +59,7 @@ first-steps h g (s ∷ ss) q place rest =
     let r : Record = stepRecord s in
     let here : ℕ = place + recordLength r in
     let far : here + length (stepsBytes ss) ≡ place + length (recordBytes r ++ stepsBytes ss) =
-        omega (arith, record-length r, length-append (recordBytes r) (stepsBytes ss)) in
+    omega (arith, record-length r, length-append (recordBytes r) (stepsBytes ss)) in
     ap (λ l. stepsFrom h place l 0) (append-assoc (recordBytes r) (stepsBytes ss) rest)
     ∙ first-step h place r (stepsBytes ss ++ rest) (step-follows h s g (q .0))
     ∙ ap (λ t. withStep t (stepsFrom h here (stepsBytes ss ++ rest) 0)) (kind-decoded s)
@@ -300,9 +300,9 @@ read-after-write buffer place before r q near room =
     let long : length (recordBytes r) ≡ recordLength r = record-length r in
     let rest : List ℕ = drop (place + length (recordBytes r)) buffer in
     let put : leavesFor buffer place r ≡ take place buffer ++ (recordBytes r ++ rest) =
-        w .1 ∙ sets-eq (recordBytes r) buffer place (omega arith) ∙ append-assoc (take place buffer) (recordBytes r) rest in
+    w .1 ∙ sets-eq (recordBytes r) buffer place (omega arith) ∙ append-assoc (take place buffer) (recordBytes r) rest in
     let there : drop place (leavesFor buffer place r) ≡ recordBytes r ++ rest =
-        ap (drop place) put ∙ drop-at (take place buffer) (recordBytes r ++ rest) place (length-take-le place buffer (omega arith)) in
+    ap (drop place) put ∙ drop-at (take place buffer) (recordBytes r ++ rest) place (length-take-le place buffer (omega arith)) in
     (w .0, ap (λ b. readerAnswers b before) there ∙ read-front before r rest q)
 
 pub write-after-read : WriteAfterRead
@@ -310,5 +310,5 @@ write-after-read bytes before r l e buffer place near room =
     let y = read-yielded bytes before r l e in
     let w = written buffer place before r (y .follows) near (subst (λ n. place + n ≤ length buffer) (y .size) room) in
     let same : take l bytes ≡ recordBytes r =
-        ap (take l) (y .front) ∙ take-at (recordBytes r) (drop l bytes) l (record-length r ∙ sym (y .size)) in
+    ap (take l) (y .front) ∙ take-at (recordBytes r) (drop l bytes) l (record-length r ∙ sym (y .size)) in
     (w .0 ∙ ap (λ n. Written.Done (place + n)) (sym (y .size)), w .1 ∙ ap (sets buffer place) (sym same))

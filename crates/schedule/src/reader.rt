@@ -11,7 +11,7 @@ ghost use mathlib.Core.Path.{_≡_};
 ghost use Prim.Native.Nat.{_<_};
 ghost use lib.ListN.{length};
 ghost use Rattle.kind.specs.Kind.{bodyLength};
-ghost use Rattle.schedule.specs.Reader.{bodyNumber, isPlaced, inRangeAfter, bodyAnswer, kindAnswer, readerAnswers};
+ghost use Rattle.schedule.specs.Reader.{bodyNumber, isPlaced, inRangeAfter, kindAnswer, readerAnswers};
 
 // The header that came before a record, or none.
 pub enum Before {
@@ -45,16 +45,6 @@ impl Before {
             Before::Header(h) => if h.in_range() { r.in_range(h.n) } else { false },
         }
     }
-
-    fn read_body(self, r: Record) -> Read
-        ensures { λ x. ⌜ x ≡ bodyAnswer self r ⌝ }
-    {
-        if self.in_range(r) {
-            Read::Record(r, r.length())
-        } else {
-            Read::Refused(OUT_OF_RANGE, 0)
-        }
-    }
 }
 
 // Number i of the body, 0 where the kind's body has none.
@@ -75,12 +65,19 @@ fn read_kind(bytes: &[u8], before: Before, kind: Kind) -> Read
     if bytes.len() <= Kind::body(kind) {
         return Read::Refused(BODY_CUT_SHORT, 0);
     }
-    if before.admits(kind) {
-        before.read_body(Record {
-            kind: kind,
-            first: body_number(bytes, kind, 1),
-            second: body_number(bytes, kind, 2),
-        })
+    let r = Record {
+        kind: kind,
+        first: body_number(bytes, kind, 1),
+        second: body_number(bytes, kind, 2),
+    };
+    let placed = before.admits(kind);
+    let ranged = before.in_range(r);
+    if placed {
+        if ranged {
+            Read::Record(r, r.length())
+        } else {
+            Read::Refused(OUT_OF_RANGE, 0)
+        }
     } else {
         Read::Refused(HEADER_MISPLACED, 0)
     }
