@@ -32,6 +32,13 @@ pub enum Step {
 }
 
 impl Kind {
+    // How many numbers a body has, each a byte.
+    pub const NO_NUMBER: usize = 0;
+
+    pub const ONE_NUMBER: usize = 1;
+
+    pub const TWO_NUMBERS: usize = 2;
+
     // Its number.
     pub fn number(self) -> u32
         ensures { λ k. ⌜ k ≡ kindNumber self ⌝ }
@@ -67,13 +74,6 @@ impl Kind {
             _ => Kind::Header,
         }
     }
-
-    // How many numbers a body has, each a byte.
-    pub const NO_NUMBER: usize = 0;
-
-    pub const ONE_NUMBER: usize = 1;
-
-    pub const TWO_NUMBERS: usize = 2;
 
     // The length of the body of a kind.
     pub fn body(k: Kind) -> usize

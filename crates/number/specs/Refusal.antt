@@ -1,5 +1,14 @@
--- The numbers of refusals, document 01's table "What each refusal hands over". Every entry cites them. Assumes nothing.
+-- The numbers of refusals and what is handed over with them, document 01's table "What each refusal hands over". Every entry cites them.
+-- Assumes nothing.
 use Prim.Native.Nat.{ℕ}
+
+-- what an entry hands over: the refusal's number or 0, and a place or a length
+pub record Handed : Type 0 where
+  pub number : ℕ
+  pub value : ℕ
+
+abbrev pub hands : ℕ → ℕ → Handed
+hands k v = record { number = k; value = v }
 
 -- nothing refused
 abbrev pub accepted : ℕ

@@ -7,22 +7,16 @@ use Prim.Native.Nat.{ℕ, zero, suc}
 use native.Mathlib.Omega.{arith}
 use lib.Dec.{eqb}
 use lib.ListN.{length, replicate}
-use Rattle.number.specs.Refusal.{accepted, emptyOrTooLong, unknownKind, bodyCutShort, headerMisplaced, outOfRange, tooShort}
+use Rattle.number.specs.Refusal.{Handed, hands, accepted, emptyOrTooLong, unknownKind, bodyCutShort, headerMisplaced, outOfRange, tooShort}
 use Rattle.kind.specs.Step.{AllInRange}
-use Rattle.schedule.specs.Types.{Step, Header, Before, Read, Written}
-use Rattle.schedule.specs.Reader.{readerAnswers}
-use Rattle.schedule.specs.Writer.{writerAnswers}
+use Rattle.schedule.specs.Types.{Step, Header, Before}
+use Rattle.schedule.specs.Reader.{readerAnswers, readHands}
+use Rattle.schedule.specs.Writer.{writerAnswers, writerHands}
 use Rattle.schedule.specs.Schedule.{Reading, Accepted, Refused, stepsFrom, readSchedule, stepsBytes, scheduleBytes}
 use Rattle.schedule.specs.RoundTrip.{too-long}
 use Rattle.schedule.proofs.RoundTrip.{steps-kept, first-refusal}
 
--- an outcome in numbers: the refusal's number or 0, and a value
-
-record Outcome : Type 0 where
-  number : ℕ
-  value : ℕ
-
-abbrev same : Outcome → Outcome → Bool
+abbrev same : Handed → Handed → Bool
 same x y = eqb (x .number) (y .number) && eqb (x .value) (y .value)
 
 abbrev allHold : {A : Type 0} → (A → Bool) → List A → Bool
@@ -31,16 +25,16 @@ allHold holds (c ∷ cs) = holds c && allHold holds cs
 
 -- Whole schedules: 0 and how many steps there are, or the refusal's number and place
 
-abbrev readingOutcome : Reading → Outcome
-readingOutcome (Accepted h steps) = record { number = accepted; value = length steps }
-readingOutcome (Refused k place) = record { number = k; value = place }
+abbrev readingHands : Reading → Handed
+readingHands (Accepted h steps) = hands accepted (length steps)
+readingHands (Refused k place) = hands k place
 
 record ScheduleCase : Type 0 where
   bytes : List ℕ
-  outcome : Outcome
+  handed : Handed
 
 abbrev schedule : List ℕ → ℕ → ℕ → ScheduleCase
-schedule bytes k v = record { bytes = bytes; outcome = record { number = k; value = v } }
+schedule bytes k v = record { bytes = bytes; handed = hands k v }
 
 abbrev schedules : List ScheduleCase
 schedules =
@@ -76,7 +70,7 @@ schedules =
     ∷ schedule (1 ∷ 1 ∷ 1 ∷ 2 ∷ 8 ∷ 1 ∷ 11 ∷ []) unknownKind 6
     ∷ []
 
-schedules-hold : allHold (λ c. same (readingOutcome (readSchedule (c .bytes))) (c .outcome)) schedules ≡ true
+schedules-hold : allHold (λ c. same (readingHands (readSchedule (c .bytes))) (c .handed)) schedules ≡ true
 unfolding stepsFrom
 schedules-hold = refl
 
@@ -103,18 +97,14 @@ longer-refused =
 
 -- One record after a header: 0 and its length, or the refusal's number and place
 
-abbrev readOutcome : Read → Outcome
-readOutcome (Read.Record r l) = record { number = accepted; value = l }
-readOutcome (Read.Refused k place) = record { number = k; value = place }
-
 record ReadCase : Type 0 where
   bytes : List ℕ
   n : ℕ
   votes : ℕ
-  outcome : Outcome
+  handed : Handed
 
 abbrev read : List ℕ → ℕ → ℕ → ℕ → ℕ → ReadCase
-read bytes n votes k v = record { bytes = bytes; n = n; votes = votes; outcome = record { number = k; value = v } }
+read bytes n votes k v = record { bytes = bytes; n = n; votes = votes; handed = hands k v }
 
 abbrev reads : List ReadCase
 reads =
@@ -132,14 +122,10 @@ reads =
     ∷ read (1 ∷ 1 ∷ 1 ∷ []) 9 0 headerMisplaced 0
     ∷ []
 
-reads-hold : allHold (λ c. same (readOutcome (readerAnswers (c .bytes) (Before.Header (record { n = c .n; votes = c .votes })))) (c .outcome)) reads ≡ true
+reads-hold : allHold (λ c. same (readHands (readerAnswers (c .bytes) (Before.Header (record { n = c .n; votes = c .votes })))) (c .handed)) reads ≡ true
 reads-hold = refl
 
 -- The writer: 0 and the place after the record, or the refusal's number with the place given or the length needed
-
-abbrev writtenOutcome : Written → Outcome
-writtenOutcome (Written.Done end) = record { number = accepted; value = end }
-writtenOutcome (Written.Refused k v) = record { number = k; value = v }
 
 record WriteCase : Type 0 where
   room : ℕ
@@ -147,11 +133,11 @@ record WriteCase : Type 0 where
   kind : ℕ
   first : ℕ
   second : ℕ
-  outcome : Outcome
+  handed : Handed
 
 abbrev write : ℕ → ℕ → ℕ → ℕ → ℕ → ℕ → ℕ → WriteCase
 write room place kind a b k v =
-    record { room = room; place = place; kind = kind; first = a; second = b; outcome = record { number = k; value = v } }
+    record { room = room; place = place; kind = kind; first = a; second = b; handed = hands k v }
 
 abbrev writes : List WriteCase
 writes =
@@ -185,5 +171,5 @@ writes =
     ∷ write 0 0 8 9 0 outOfRange 0
     ∷ []
 
-writes-hold : allHold (λ c. same (writtenOutcome (writerAnswers (c .room) (c .place) (c .kind) (c .first) (c .second))) (c .outcome)) writes ≡ true
+writes-hold : allHold (λ c. same (writerHands (writerAnswers (c .room) (c .place) (c .kind) (c .first) (c .second))) (c .handed)) writes ≡ true
 writes-hold = refl

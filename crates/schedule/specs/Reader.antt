@@ -4,7 +4,7 @@ use mathlib.Core.List.{List}
 use Prim.Native.Nat.{ℕ}
 use lib.Dec.{eqb, leb}
 use lib.ListN.{length, getD}
-use Rattle.number.specs.Refusal.{emptyOrTooLong, unknownKind, bodyCutShort, headerMisplaced, outOfRange}
+use Rattle.number.specs.Refusal.{Handed, hands, accepted, emptyOrTooLong, unknownKind, bodyCutShort, headerMisplaced, outOfRange}
 use Rattle.kind.specs.Kind.{kindOf, isKind, bodyLength, isHeader}
 use Rattle.schedule.specs.Types.{Kind, Header, Record, Before, Read}
 use Rattle.schedule.specs.Record.{headerInRange, recordInRange, recordLength}
@@ -39,3 +39,8 @@ abbrev pub readerAnswers : List ℕ → Before → Read
 readerAnswers bytes before =
     cond (eqb (length bytes) 0) (refused emptyOrTooLong)
     (cond (isKind (getD bytes 0 0)) (kindAnswer bytes before (kindOf (getD bytes 0 0))) (refused unknownKind))
+
+-- what each case of the answer hands over: 0 and the record's length, or the refusal's number and place
+abbrev pub readHands : Read → Handed
+readHands (Read.Record r l) = hands accepted l
+readHands (Read.Refused k place) = hands k place

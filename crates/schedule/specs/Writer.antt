@@ -5,7 +5,7 @@ use Prim.Native.Nat.{ℕ, _+_}
 use lib.Dec.{leb, ltb}
 use lib.ListN.{length}
 use lib.Seq.{sets}
-use Rattle.number.specs.Refusal.{unknownKind, outOfRange, tooShort}
+use Rattle.number.specs.Refusal.{Handed, hands, accepted, unknownKind, outOfRange, tooShort}
 use Rattle.store.specs.Log.{places}
 use Rattle.kind.specs.Kind.{isKind}
 use Rattle.schedule.specs.Types.{Record, Written}
@@ -25,6 +25,11 @@ recordAnswer room place r = cond (isWritable place r) (roomAnswer room (place + 
 -- what the writer answers, with a buffer of `room` bytes
 abbrev pub writerAnswers : ℕ → ℕ → ℕ → ℕ → ℕ → Written
 writerAnswers room place k a b = cond (isKind k) (recordAnswer room place (recordOf k a b)) (Written.Refused unknownKind place)
+
+-- what each case of the answer hands over: 0 and the place after the record; the refusal's number with the place given, or the length needed
+abbrev pub writerHands : Written → Handed
+writerHands (Written.Done end) = hands accepted end
+writerHands (Written.Refused k v) = hands k v
 
 -- what it leaves in the buffer
 
