@@ -52,6 +52,18 @@ kind-encoded k a b q =
     let e = step-numbers .encoded (kindNumber k) a b q in
     (rw (kind-numbers .decoded k) at (e .1), rw (kind-numbers .decoded k) at (e .2))
 
+pub header-kind : (k : Kind) → isHeader k ≡ true → k ≡ Kind.Header
+header-kind Kind.Header q = refl
+header-kind Kind.Start q = cc
+header-kind Kind.Deliver q = cc
+header-kind Kind.Copy q = cc
+header-kind Kind.Lose q = cc
+header-kind Kind.Call q = cc
+header-kind Kind.CallLost q = cc
+header-kind Kind.Timeout q = cc
+header-kind Kind.Crash q = cc
+header-kind Kind.Restart q = cc
+
 pub step-no-header : (s : Step) → isHeader (stepKind s) ≡ false
 step-no-header Step.Start = refl
 step-no-header (Step.Deliver m p) = refl

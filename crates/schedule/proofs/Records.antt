@@ -40,6 +40,9 @@ body-length Kind.Restart a b = refl
 pub record-length : (r : Record) → length (recordBytes r) ≡ recordLength r
 record-length r = let e = body-length (r .kind) (r .first) (r .second) in omega arith
 
+pub front-length : (r : Record) (rest : List ℕ) → length (recordBytes r ++ rest) ≡ recordLength r + length rest
+front-length r rest = length-append (recordBytes r) rest ∙ ap (λ n. n + length rest) (record-length r)
+
 -- From a record to bytes and back
 
 -- the numbers that the reader finds in the bytes of a record in range
@@ -74,7 +77,7 @@ pub read-front : (before : Before) (r : Record) (rest : List ℕ) → mayFollow 
 read-front before r rest q =
     let bytes : List ℕ = recordBytes r ++ rest in
     let k : Kind = r .kind in
-    let some : length bytes ≡ recordLength r + length rest = length-append (recordBytes r) rest ∙ ap (λ x. x + length rest) (record-length r) in
+    let some : length bytes ≡ recordLength r + length rest = front-length r rest in
     let ranged : inRangeAfter before (recordWith k (r .first) (r .second)) ≡ true = and-right (isPlaced before k) _ q in
     let n = after-range before r ranged in
     let f = found (n .0) (r .first) (r .second) rest k (n .1) in

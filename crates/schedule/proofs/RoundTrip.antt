@@ -1,84 +1,27 @@
 -- Nothing is lost between bytes and records, either way, and a refusal is the first from the left: the statements of specs/RoundTrip.antt.
 -- Assumes nothing.
-use mathlib.Core.Path.{_≡_, refl, sym, ap, ap₂, subst, _∙_}
-use mathlib.Core.Bool.{Bool, true, false, cond}
-use mathlib.Core.List.{List, [], _∷_, _++_, append-assoc, append-nil}
-use Prim.Native.Nat.{ℕ, zero, suc, _+_, _-_, _≤_, _<_}
+use mathlib.Core.Path.{_≡_, refl, sym, ap, subst, _∙_}
+use mathlib.Core.Bool.{true}
+use mathlib.Core.List.{List, [], _∷_, _++_, map, append-assoc, append-nil}
+use Prim.Native.Nat.{ℕ, zero, suc, _+_, _-_, _≤_}
 use native.Mathlib.Omega.{arith}
 use native.Mathlib.Nat.{add-zero}
-use lib.Dec.{eqb, leb, ltb}
-use lib.ListN.{length, getD, take, drop, length-append}
-use lib.Seq.{sets, sets-eq, length-take-le, take-at, drop-at}
-use borrow.Author.Tests.{ltb-true, ltb-false, lt-ltb, le-ltb}
-use Rattle.number.specs.Refusal.{emptyOrTooLong}
-use Rattle.number.proofs.Laws.{and-left, and-right}
+use lib.ListN.{length, set, take, drop}
+use lib.Seq.{sets, sets-eq, length-sets, length-take-le, take-at, drop-at}
+use borrow.Author.Tests.{lt-ltb, le-ltb}
+use Rattle.number.proofs.Laws.{and-right}
 use Rattle.store.specs.Log.{places}
-use Rattle.kind.specs.Kind.{kindOf, isKind, bodyLength, isHeader}
+use Rattle.kind.specs.Kind.{bodyLength}
 use Rattle.kind.specs.Step.{AllInRange}
-use Rattle.kind.proofs.Numbers.{kind-decoded, kind-most}
-use Rattle.schedule.specs.Types.{Kind, Step, Header, Record, Before, Read, Written}
-use Rattle.schedule.specs.Record.{headerRecord, recordHeader, stepRecord, recordStep, headerInRange, recordInRange, recordLength, recordBytes, longest}
-use Rattle.schedule.specs.Reader.{bodyNumber, isPlaced, inRangeAfter, kindAnswer, readerAnswers}
-use Rattle.schedule.specs.Schedule.{Reading, Accepted, Refused, withStep, andThen, stepsFrom, stepsAfter, readSchedule, stepsBytes, scheduleBytes}
-use Rattle.schedule.specs.RoundTrip.{mayFollow, leavesFor, ReadAfterWrite, WriteAfterRead, BytesKept, StepsKept, ReadInRange, AllBytes, BytesFit, RefusalOf, too-long, at-header, at-step, FirstRefusal}
+use Rattle.kind.proofs.Numbers.{kind-most}
+use Rattle.schedule.specs.Types.{Step, Header, Record, Before, Written}
+use Rattle.schedule.specs.Record.{headerRecord, stepRecord, headerInRange, recordInRange, recordLength, recordBytes, longest}
+use Rattle.schedule.specs.Reader.{isPlaced, readerAnswers}
+use Rattle.schedule.specs.Schedule.{Refused, stepsFrom, readSchedule, stepsBytes}
+use Rattle.schedule.specs.RoundTrip.{mayFollow, leavesFor, ReadAfterWrite, WriteAfterRead, BytesKept, StepsKept, ReadInRange, AllBytes, BytesFit, writtenInTurn, WrittenInTurn, RefusalOf, too-long, at-header, at-step, FirstRefusal}
 use Rattle.schedule.proofs.Laws.{header-size, record-bytes}
-use Rattle.schedule.proofs.Records.{record-length, read-front, read-yielded, step-follows, record-step, written}
-
--- Reading on
-
--- bytes that belong to the record before are passed over
-passed : (h : Header) (place : ℕ) (xs ys : List ℕ) → stepsFrom h place (xs ++ ys) (length xs) ≡ stepsFrom h (place + length xs) ys 0
-unfolding stepsFrom
-passed h place [] ys = rw (add-zero place) refl
-passed h place (x ∷ xs) ys =
-    let e : suc place + length xs ≡ place + suc (length xs) = omega arith in
-    passed h (suc place) xs ys ∙ ap (λ p. stepsFrom h p ys 0) e
-
--- a record in range comes first, and then what follows its bytes
-pub first-step : (h : Header) (place : ℕ) (r : Record) (rest : List ℕ) → mayFollow (Before.Header h) r ≡ true
-    → stepsFrom h place (recordBytes r ++ rest) 0 ≡ withStep (recordStep r) (stepsFrom h (place + recordLength r) rest 0)
-unfolding stepsFrom
-first-step h place r rest q =
-    let body : List ℕ = take (bodyLength (r .kind)) (r .first ∷ r .second ∷ []) in
-    let long : length body ≡ recordLength r - 1 = omega (arith, record-length r) in
-    let next : suc place + length body ≡ place + recordLength r = omega (arith, record-length r) in
-    ap (λ x. andThen place x (stepsFrom h (suc place) (body ++ rest))) (read-front (Before.Header h) r rest q)
-    ∙ ap (withStep (recordStep r))
-    (ap (stepsFrom h (suc place) (body ++ rest)) (sym long) ∙ passed h (suc place) body rest ∙ ap (λ p. stepsFrom h p rest 0) next)
-
--- the same for a list of steps
-
-abbrev pub withSteps : List Step → Reading → Reading
-withSteps [] x = x
-withSteps (s ∷ ss) x = withStep s (withSteps ss x)
-
-pub first-steps : (h : Header) → headerInRange h ≡ true → (steps : List Step) → AllInRange (h .n) steps → (place : ℕ) (rest : List ℕ)
-    → stepsFrom h place (stepsBytes steps ++ rest) 0 ≡ withSteps steps (stepsFrom h (place + length (stepsBytes steps)) rest 0)
-first-steps h g [] q place rest = rw (add-zero place) refl
-first-steps h g (s ∷ ss) q place rest =
-    let r : Record = stepRecord s in
-    let here : ℕ = place + recordLength r in
-    let far : here + length (stepsBytes ss) ≡ place + length (recordBytes r ++ stepsBytes ss) =
-    omega (arith, record-length r, length-append (recordBytes r) (stepsBytes ss)) in
-    ap (λ l. stepsFrom h place l 0) (append-assoc (recordBytes r) (stepsBytes ss) rest)
-    ∙ first-step h place r (stepsBytes ss ++ rest) (step-follows h s g (q .0))
-    ∙ ap (λ t. withStep t (stepsFrom h here (stepsBytes ss ++ rest) 0)) (kind-decoded s)
-    ∙ ap (withStep s) (first-steps h g ss (q .1) here rest ∙ ap (λ p. withSteps ss (stepsFrom h p rest 0)) far)
-
--- A header, and steps after it
-
-after-header : (h : Header) → headerInRange h ≡ true → (rest : List ℕ) → length (recordBytes (headerRecord h) ++ rest) ≤ longest
-    → readSchedule (recordBytes (headerRecord h) ++ rest) ≡ stepsFrom h 3 rest 0
-after-header h g rest fits =
-    simp (
-      le-ltb longest (length (recordBytes (headerRecord h) ++ rest)) fits,
-      read-front Before.Nothing (headerRecord h) rest g,
-    )
-
-all-read : (h : Header) (place : ℕ) (steps : List Step) → withSteps steps (stepsFrom h place [] 0) ≡ Accepted h steps
-unfolding stepsFrom
-all-read h place [] = refl
-all-read h place (s ∷ ss) = ap (withStep s) (all-read h place ss)
+use Rattle.schedule.proofs.Records.{record-length, front-length, read-front, read-yielded, step-follows, written}
+use Rattle.schedule.proofs.Reading.{withSteps, first-steps, after-header, all-read, SaysWhole, read-says, refused-first, still-refused, three-more}
 
 pub steps-kept : StepsKept
 steps-kept h steps g q fits =
@@ -87,150 +30,6 @@ steps-kept h steps g q fits =
     ∙ first-steps h g steps q 3 []
     ∙ all-read h (3 + length (stepsBytes steps)) steps
 
--- What was read
-
--- the reader's refusals name the place of its first byte
-
-abbrev AtFirst : Read → Type 0
-AtFirst (Read.Record r l) = Unit {0}
-AtFirst (Read.Refused k p) = p ≡ 0
-
-either : (b : Bool) (x y : Read) → AtFirst x → AtFirst y → AtFirst (cond b x y)
-either true x y p q = p
-either false x y p q = q
-
-at-first : (bytes : List ℕ) (before : Before) → AtFirst (readerAnswers bytes before)
-at-first bytes before =
-    either (eqb (length bytes) 0) _ _ refl
-    (either (isKind (getD bytes 0 0)) _ _ (known (kindOf (getD bytes 0 0))) refl)
-  where
-    known : (k : Kind) → AtFirst (kindAnswer bytes before k)
-    known k =
-        let r : Record = record { kind = k; first = bodyNumber bytes k 1; second = bodyNumber bytes k 2 } in
-        either (leb (length bytes) (bodyLength k)) _ _ refl
-        (either (isPlaced before k) _ _ (either (inRangeAfter before r) (Read.Record r (recordLength r)) _ tt refl) refl)
-
--- steps that are read, and then a record that is refused
-record StoppedAt (h : Header) (place : ℕ) (bytes : List ℕ) (k at : ℕ) : Type 0 where
-  steps : List Step
-  rest : List ℕ
-  ranged : AllInRange (h .n) steps
-  split : bytes ≡ stepsBytes steps ++ rest
-  some : 0 < length rest
-  refused : readerAnswers rest (Before.Header h) ≡ Read.Refused k 0
-  there : at ≡ place + length (stepsBytes steps)
-
--- what a reading says of the bytes from a place on
-abbrev Says : Header → ℕ → List ℕ → Reading → Type 0
-Says h place bytes (Accepted g steps) = (g ≡ h) × AllInRange (h .n) steps × (stepsBytes steps ≡ bytes)
-Says h place bytes (Refused k at) = StoppedAt h place bytes k at
-
-says-more : (h : Header) (place : ℕ) (r : Record) (rest : List ℕ) → mayFollow (Before.Header h) r ≡ true → (x : Reading)
-    → Says h (place + recordLength r) rest x → Says h place (recordBytes r ++ rest) (withStep (recordStep r) x)
-says-more h place r rest q (Accepted g steps) y =
-    let s = record-step h r q in
-    (y .0, (s .1, y .1), ap₂ (λ (a : Record) (b : List ℕ). recordBytes a ++ b) (s .0) (y .2))
-says-more h place r rest q (Refused k at) y =
-    let s = record-step h r q in
-    let bytes = ap (λ (a : Record). recordBytes a ++ stepsBytes (y .steps)) (s .0) in
-    record {
-      steps = recordStep r ∷ y .steps;
-      rest = y .rest;
-      ranged = (s .1, y .ranged);
-      split =
-          ap (λ l. recordBytes r ++ l) (y .split)
-          ∙ sym (append-assoc (recordBytes r) (stepsBytes (y .steps)) (y .rest))
-          ∙ ap (λ l. l ++ y .rest) (sym bytes);
-      some = y .some;
-      refused = y .refused;
-      there = y .there ∙ omega (arith, record-length r, length-append (recordBytes r) (stepsBytes (y .steps)), ap length bytes);
-    }
-
-says : (h : Header) (place : ℕ) (bytes : List ℕ) (skip : ℕ) → skip ≤ length bytes → Says h (place + skip) (drop skip bytes) (stepsFrom h place bytes skip)
-unfolding stepsFrom
-says h place [] zero fits = (refl, tt, refl)
-says h place [] (suc skip) fits = (refl, tt, refl)
-says h place (x ∷ bytes) (suc skip) fits =
-    let e : suc place + skip ≡ place + suc skip = omega arith in
-    rw e at (says h (suc place) bytes skip (omega arith))
-says h place (x ∷ bytes) zero fits = rw (add-zero place) (read (readerAnswers (x ∷ bytes) (Before.Header h)) refl (λ skip. says h (suc place) bytes skip))
-  where
-    read : (y : Read) → readerAnswers (x ∷ bytes) (Before.Header h) ≡ y
-        → ((skip : ℕ) → skip ≤ length bytes → Says h (suc place + skip) (drop skip bytes) (stepsFrom h (suc place) bytes skip))
-        → Says h place (x ∷ bytes) (andThen place y (stepsFrom h (suc place) bytes))
-    read (Read.Record r l) e next =
-        let y = read-yielded (x ∷ bytes) (Before.Header h) r l e in
-        let longer : l ≡ suc (l - 1) = omega (arith, y .size) in
-        let whole : x ∷ bytes ≡ recordBytes r ++ drop (l - 1) bytes = y .front ∙ ap (λ i. recordBytes r ++ drop i (x ∷ bytes)) longer in
-        let room : l - 1 ≤ length bytes = omega (arith, ap length (y .front), length-append (recordBytes r) (drop l (x ∷ bytes)), record-length r, y .size) in
-        let there : suc place + (l - 1) ≡ place + recordLength r = omega (arith, y .size) in
-        rw whole (says-more h place r (drop (l - 1) bytes) (y .follows) (stepsFrom h (suc place) bytes (l - 1)) (rw there at (next (l - 1) room)))
-    read (Read.Refused k p) e next =
-        let here : p ≡ 0 = subst AtFirst e (at-first (x ∷ bytes) (Before.Header h)) in
-        record {
-          steps = [];
-          rest = x ∷ bytes;
-          ranged = tt;
-          split = refl;
-          some = omega arith;
-          refused = e ∙ ap (Read.Refused k) here;
-          there = ap (λ i. place + i) here;
-        }
-
--- what a reading says of a whole schedule
-abbrev SaysWhole : List ℕ → Reading → Type 0
-SaysWhole bytes (Accepted h steps) =
-    (scheduleBytes h steps ≡ bytes) × (headerInRange h ≡ true) × AllInRange (h .n) steps × (length bytes ≤ longest)
-SaysWhole bytes (Refused k at) = RefusalOf bytes k at
-
-header-kind : (k : Kind) → isHeader k ≡ true → k ≡ Kind.Header
-header-kind Kind.Header q = refl
-header-kind Kind.Start q = cc
-header-kind Kind.Deliver q = cc
-header-kind Kind.Copy q = cc
-header-kind Kind.Lose q = cc
-header-kind Kind.Call q = cc
-header-kind Kind.CallLost q = cc
-header-kind Kind.Timeout q = cc
-header-kind Kind.Crash q = cc
-header-kind Kind.Restart q = cc
-
-three-more : (n : ℕ) → 3 + n ≡ suc (suc (suc n))
-three-more n = omega arith
-
-says-whole : (h : Header) (rest : List ℕ) → headerInRange h ≡ true → length (recordBytes (headerRecord h) ++ rest) ≤ longest → (x : Reading) → Says h 3 rest x
-    → SaysWhole (recordBytes (headerRecord h) ++ rest) x
-says-whole h rest g fits (Accepted h′ steps) y =
-    rw (y .0) (ap (λ l. recordBytes (headerRecord h) ++ l) (y .2), g, y .1, fits)
-says-whole h rest g fits (Refused k at) y =
-    let place : at ≡ length (scheduleBytes h (y .steps)) = y .there ∙ three-more (length (stepsBytes (y .steps))) in
-    rw place
-    (at-step h (y .steps) (y .rest) fits g (y .ranged) (ap (λ l. recordBytes (headerRecord h) ++ l) (y .split)) (y .some) (y .refused))
-
-read-says : (bytes : List ℕ) → SaysWhole bytes (readSchedule bytes)
-read-says bytes = by-length (ltb longest (length bytes)) refl
-  where
-    by-header : (x : Read) → length bytes ≤ longest → readerAnswers bytes Before.Nothing ≡ x → SaysWhole bytes (stepsAfter bytes x)
-    by-header (Read.Record r l) fits e =
-        let y = read-yielded bytes Before.Nothing r l e in
-        let h : Header = recordHeader r in
-        let placed : isHeader (r .kind) ≡ true = and-left (isHeader (r .kind)) _ (y .follows) in
-        let first : r .kind ≡ Kind.Header = header-kind (r .kind) placed in
-        let same : r ≡ headerRecord h = ap (λ (k : Kind). record { kind = k; first = r .first; second = r .second }) first in
-        let three : l ≡ 3 = y .size ∙ ap recordLength same in
-        let front : bytes ≡ recordBytes (headerRecord h) ++ drop l bytes = y .front ∙ ap (λ (a : Record). recordBytes a ++ drop l bytes) same in
-        let ranged : headerInRange h ≡ true = rw placed at (and-right (isHeader (r .kind)) _ (y .follows)) in
-        let x : Reading = stepsFrom h l (drop l bytes) 0 in
-        let said : Says h 3 (drop l bytes) x = subst (λ p. Says h p (drop l bytes) x) (add-zero l ∙ three) (says h l (drop l bytes) 0 (omega arith)) in
-        subst (λ b. SaysWhole b x) (sym front) (says-whole h (drop l bytes) ranged (subst (λ b. length b ≤ longest) front fits) x said)
-    by-header (Read.Refused k p) fits e =
-        let here : p ≡ 0 = subst AtFirst e (at-first bytes Before.Nothing) in
-        rw here (at-header fits (e ∙ ap (Read.Refused k) here))
-
-    by-length : (b : Bool) → ltb longest (length bytes) ≡ b → SaysWhole bytes (cond b (Refused emptyOrTooLong 0) (stepsAfter bytes (readerAnswers bytes Before.Nothing)))
-    by-length true e = too-long (ltb-true longest (length bytes) e)
-    by-length false e = by-header (readerAnswers bytes Before.Nothing) (ltb-false longest (length bytes) e) refl
-
 pub bytes-kept : BytesKept
 bytes-kept bytes h steps e = subst (SaysWhole bytes) e (read-says bytes) .0
 
@@ -238,17 +37,6 @@ pub read-in-range : ReadInRange
 read-in-range bytes h steps e = let x = subst (SaysWhole bytes) e (read-says bytes) in (x .1, x .2, x .3)
 
 -- Refusals
-
-refused-first : (h : Header) (place : ℕ) (rest : List ℕ) (k : ℕ) → 0 < length rest → readerAnswers rest (Before.Header h) ≡ Read.Refused k 0
-    → stepsFrom h place rest 0 ≡ Refused k place
-unfolding stepsFrom
-refused-first h place [] k some e = absurd (omega arith)
-refused-first h place (x ∷ rest) k some e =
-    ap (λ y. andThen place y (stepsFrom h (suc place) rest)) e ∙ ap (Refused k) (add-zero place)
-
-still-refused : (steps : List Step) (k place : ℕ) → withSteps steps (Refused k place) ≡ Refused k place
-still-refused [] k place = refl
-still-refused (s ∷ ss) k place = ap (withStep s) (still-refused ss k place)
 
 is-refused : (bytes : List ℕ) (k place : ℕ) → RefusalOf bytes k place → readSchedule bytes ≡ Refused k place
 is-refused bytes k place (too-long h) = simp (lt-ltb longest (length bytes) h)
@@ -312,3 +100,40 @@ write-after-read bytes before r l e buffer place near room =
     let same : take l bytes ≡ recordBytes r =
     ap (take l) (y .front) ∙ take-at (recordBytes r) (drop l bytes) l (record-length r ∙ sym (y .size)) in
     (w .0 ∙ ap (λ n. Written.Done (place + n)) (sym (y .size)), w .1 ∙ ap (sets buffer place) (sym same))
+
+-- A whole schedule through the writer
+
+sets-append : (l : List ℕ) (i : ℕ) (xs ys : List ℕ) → sets l i (xs ++ ys) ≡ sets (sets l i xs) (i + length xs) ys
+sets-append l i [] ys = ap (λ j. sets l j ys) (sym (add-zero i))
+sets-append l i (x ∷ xs) ys =
+    let e : suc i + length xs ≡ i + suc (length xs) = omega arith in
+    sets-append (set l i x) (suc i) xs ys ∙ ap (λ j. sets (sets (set l i x) (suc i) xs) j ys) e
+
+-- one record, and then the others
+turn : (buffer : List ℕ) (place : ℕ) (before : Before) (r : Record) (rs : List Record) (rest : List ℕ) → mayFollow before r ≡ true
+    → place + length (recordBytes r ++ rest) ≤ longest → place + length (recordBytes r ++ rest) ≤ length buffer
+    → ((buffer : List ℕ) → place + recordLength r + length rest ≤ length buffer → writtenInTurn buffer (place + recordLength r) rs ≡ sets buffer (place + recordLength r) rest)
+    → writtenInTurn buffer place (r ∷ rs) ≡ sets buffer place (recordBytes r ++ rest)
+turn buffer place before r rs rest q near room next =
+    let size = front-length r rest in
+    let w = written buffer place before r q (omega arith) (omega arith) .1 in
+    let put : List ℕ = sets buffer place (recordBytes r) in
+    ap (λ b. writtenInTurn b (place + recordLength r) rs) w
+    ∙ next put (omega (arith, length-sets buffer place (recordBytes r)))
+    ∙ ap (λ n. sets put (place + n) rest) (sym (record-length r))
+    ∙ sym (sets-append buffer place (recordBytes r) rest)
+
+steps-in-turn : (h : Header) → headerInRange h ≡ true → (steps : List Step) → AllInRange (h .n) steps → (buffer : List ℕ) (place : ℕ)
+    → place + length (stepsBytes steps) ≤ longest → place + length (stepsBytes steps) ≤ length buffer
+    → writtenInTurn buffer place (map stepRecord steps) ≡ sets buffer place (stepsBytes steps)
+steps-in-turn h g [] q buffer place near room = refl
+steps-in-turn h g (s ∷ ss) q buffer place near room =
+    let r : Record = stepRecord s in
+    let size = front-length r (stepsBytes ss) in
+    turn buffer place (Before.Header h) r (map stepRecord ss) (stepsBytes ss) (step-follows h s g (q .0)) near room
+    (λ b enough. steps-in-turn h g ss (q .1) b (place + recordLength r) (omega arith) enough)
+
+pub written-in-turn : WrittenInTurn
+written-in-turn buffer h steps g q near room =
+    turn buffer 0 Before.Nothing (headerRecord h) (map stepRecord steps) (stepsBytes steps) g (omega arith) (omega arith)
+    (λ b enough. steps-in-turn h g steps q b 3 (omega arith) enough)

@@ -1,7 +1,7 @@
 -- Nothing is lost between bytes and records, either way, and a refusal is the first from the left. Proved in proofs/RoundTrip.antt. Assumes nothing.
 use mathlib.Core.Path.{_≡_}
 use mathlib.Core.Bool.{Bool, true, _&&_}
-use mathlib.Core.List.{List, [], _∷_, _++_}
+use mathlib.Core.List.{List, [], _∷_, _++_, map}
 use Prim.Native.Nat.{ℕ, _+_, _≤_, _<_}
 use lib.ListN.{length, take, drop}
 use lib.Seq.{sets}
@@ -9,7 +9,7 @@ use Rattle.number.specs.Refusal.{emptyOrTooLong}
 use Rattle.kind.specs.Kind.{kindNumber}
 use Rattle.kind.specs.Step.{AllInRange}
 use Rattle.schedule.specs.Types.{Step, Header, Record, Before, Read, Written}
-use Rattle.schedule.specs.Record.{headerInRange, recordLength, longest}
+use Rattle.schedule.specs.Record.{headerRecord, stepRecord, headerInRange, recordLength, longest}
 use Rattle.schedule.specs.Reader.{isPlaced, inRangeAfter, readerAnswers}
 use Rattle.schedule.specs.Writer.{writerAnswers, writerLeaves}
 use Rattle.schedule.specs.Schedule.{Accepted, Refused, readSchedule, scheduleBytes}
@@ -57,6 +57,18 @@ abbrev pub ReadInRange : Type 0
 ReadInRange =
     (bytes : List ℕ) (h : Header) (steps : List Step) → readSchedule bytes ≡ Accepted h steps
     → (headerInRange h ≡ true) × AllInRange (h .n) steps × (length bytes ≤ longest)
+
+-- the writer puts these bytes, record by record, each at the place after the one before
+
+abbrev pub writtenInTurn : List ℕ → ℕ → List Record → List ℕ
+writtenInTurn buffer place [] = buffer
+writtenInTurn buffer place (r ∷ rs) = writtenInTurn (leavesFor buffer place r) (place + recordLength r) rs
+
+abbrev pub WrittenInTurn : Type 0
+WrittenInTurn =
+    (buffer : List ℕ) (h : Header) (steps : List Step) → headerInRange h ≡ true → AllInRange (h .n) steps
+    → length (scheduleBytes h steps) ≤ longest → length (scheduleBytes h steps) ≤ length buffer
+    → writtenInTurn buffer 0 (headerRecord h ∷ map stepRecord steps) ≡ sets buffer 0 (scheduleBytes h steps)
 
 -- the bytes of a schedule are bytes
 
