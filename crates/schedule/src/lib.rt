@@ -47,7 +47,7 @@ impl Record {
         1 + Kind::body(kind)
     }
 
-    // The header that it is.
+    // Its numbers as those of a header.
     pub fn header(self) -> Header
         ensures { λ h. ⌜ h ≡ recordHeader self ⌝ }
     {
@@ -57,7 +57,7 @@ impl Record {
         }
     }
 
-    // The step that it is.
+    // The step of its kind with its numbers.
     pub fn step(self) -> Step
         ensures { λ s. ⌜ s ≡ recordStep self ⌝ }
     {

@@ -59,6 +59,7 @@ fn body_number(bytes: &[u8], kind: Kind, i: usize) -> u32
     }
 }
 
+// A record whose kind is known: 3, 4, 5.
 fn read_kind(bytes: &[u8], before: Before, kind: Kind) -> Read
     ensures { λ x. ⌜ x ≡ kindAnswer (now (bytes .entry)) before kind ⌝ }
 {

@@ -20,6 +20,7 @@ pub enum Written {
     Refused(u32, usize),
 }
 
+// Whether the place and the record's numbers are in range.
 fn writable(place: usize, r: Record) -> bool
     ensures { λ b. ⌜ b ≡ isWritable place r ⌝ }
 {
@@ -30,6 +31,7 @@ fn writable(place: usize, r: Record) -> bool
     }
 }
 
+// The kind's byte, and as many numbers as the body has.
 fn put(buffer: &mut [u8], place: usize, r: Record)
     requires { ⌜ (isWritable place r ≡ true) × (place + recordLength r ≤ length (now buffer)) ⌝ }
     ensures { λ _. ⌜ now (buffer .exit) ≡ sets (now (buffer .entry)) place (recordBytes r) ⌝ }
@@ -47,6 +49,7 @@ fn put(buffer: &mut [u8], place: usize, r: Record)
     buffer[place + 2] = r.second as u8;
 }
 
+// A record whose kind is known: 5, 6.
 fn write_kind(buffer: &mut [u8], place: usize, r: Record) -> Written
     ensures { λ x. ⌜ (x ≡ recordAnswer (length (now (buffer .entry))) place r)
         × (now (buffer .exit) ≡ leaves (now (buffer .entry)) place r (recordAnswer (length (now (buffer .entry))) place r)) ⌝ }
