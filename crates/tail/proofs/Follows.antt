@@ -143,8 +143,8 @@ count-tested r g k p false e = rw (e, g .calls-beyond p (leb-false p (r .n) e)) 
 
 pub tail-in-range : (r : Release) → r .n ≤ places → ReleaseInRange r → Countable (r .calls) → tailInRange (tailOf r) ≡ true
 tail-in-range r h g k =
-    and-true _ _ (and-true _ _ (le-leb 1 (r .n) (g .positive)) (le-leb (r .n) places h))
-    (and-true _ _ (and-true _ _ (g .votes) (every-all _ 5 (message-tested r g)))
+    and-true _ _ (and-true _ _ (and-true _ _ (le-leb 1 (r .n) (g .positive)) (le-leb (r .n) places h)) (g .votes))
+    (and-true _ _ (every-all _ 5 (message-tested r g))
     (and-true _ _ (and-true _ _ (coordinator-numbers-tested (r .n) (r .coordinator) (g .coordinator)) (every-all _ places at))
     (every-all _ 9 (λ p l. count-tested r g k p (leb p (r .n)) refl))))
   where

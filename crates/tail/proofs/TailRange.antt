@@ -9,24 +9,21 @@ use lib.ListN.{length, getD, List·getD-eq-default}
 use borrow.Author.Tests.{ltb-true, eqb-true}
 use Rattle.number.proofs.Laws.{and-left, and-right}
 use Rattle.store.specs.Log.{places}
-use Rattle.kind.specs.Step.{numberInRange}
+use Rattle.schedule.specs.Record.{headerInRange}
+use Rattle.schedule.proofs.Laws.{header-size}
 use Rattle.rules.specs.Run.{Countable}
-use Rattle.tail.specs.Tail.{every, masksInRange, partiesInRange, countInRange, callsInRange, tailInRange}
+use Rattle.tail.specs.Tail.{headerOf, messagesInRange, partiesInRange, countInRange, callsInRange, tailInRange}
 use Rattle.tail.specs.Types.{Tail}
-use Rattle.kind.proofs.Numbers.{between}
 use Rattle.tail.proofs.Tabulate.{every-at}
 
 pub n-in-range : (t : Tail) → tailInRange t ≡ true → (1 ≤ t .n) × (t .n ≤ places)
-n-in-range t q = between 1 (t .n) places (and-left (numberInRange 1 (t .n) places) _ q)
-
-pub masks-in-range : (t : Tail) → tailInRange t ≡ true → masksInRange t ≡ true
-masks-in-range t q = and-left (masksInRange t) _ (and-right (numberInRange 1 (t .n) places) _ q)
+n-in-range t q = header-size (headerOf t) (and-left (headerInRange (headerOf t)) _ q)
 
 pub parties-in-range : (t : Tail) → tailInRange t ≡ true → partiesInRange t ≡ true
-parties-in-range t q = and-left (partiesInRange t) _ (and-right (masksInRange t) _ (and-right (numberInRange 1 (t .n) places) _ q))
+parties-in-range t q = and-left (partiesInRange t) _ (and-right (messagesInRange t) _ (and-right (headerInRange (headerOf t)) _ q))
 
 pub calls-in-range : (t : Tail) → tailInRange t ≡ true → callsInRange t ≡ true
-calls-in-range t q = and-right (partiesInRange t) _ (and-right (masksInRange t) _ (and-right (numberInRange 1 (t .n) places) _ q))
+calls-in-range t q = and-right (partiesInRange t) _ (and-right (messagesInRange t) _ (and-right (headerInRange (headerOf t)) _ q))
 
 count-below : (b : Bool) (k : ℕ) → cond b (ltb k 65535) (eqb k 0) ≡ true → k < 65535
 count-below true k q = ltb-true k 65535 q

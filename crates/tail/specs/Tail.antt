@@ -9,10 +9,10 @@ use Rattle.mask.specs.Mask.{within}
 use Rattle.store.specs.Log.{recordNumber, recordOf, isRecord, isAllowed, places}
 use Rattle.participant.specs.Participant
 use Rattle.coordinator.specs.Coordinator
-use Rattle.kind.specs.Step.{numberInRange}
+use Rattle.schedule.specs.Record.{headerInRange}
 use Rattle.rules.specs.State.{participantOf, firstOf, lastOf, types}
 use Rattle.rules.specs.Run.{countLimit}
-use Rattle.tail.specs.Types.{LogPair, Site, Release, ParticipantFields, Tail}
+use Rattle.tail.specs.Types.{LogPair, Header, Site, Release, ParticipantFields, Tail}
 
 -- f 0 to f (k - 1), and whether all of k places pass a test
 
@@ -73,11 +73,12 @@ releaseOf t =
 
 -- field by field, what the tail of that n could hold
 
+-- n and votes are those of a header
+abbrev pub headerOf : Tail → Header
+headerOf t = record { n = t .n; votes = t .votes }
+
 abbrev pub messagesInRange : Tail → Bool
 messagesInRange t = every (λ k. within (t .n) (getD (t .messages) k 0)) types
-
-abbrev pub masksInRange : Tail → Bool
-masksInRange t = within (t .n) (t .votes) && messagesInRange t
 
 abbrev pub recordsInRange : ParticipantFields → Bool
 recordsInRange f = isRecord (f .first) && (isRecord (f .last) && isAllowed (pairOf f))
@@ -104,7 +105,7 @@ abbrev pub callsInRange : Tail → Bool
 callsInRange t = every (λ p. countInRange (t .n) p (getD (t .calls) p 0)) (suc places)
 
 abbrev pub tailInRange : Tail → Bool
-tailInRange t = numberInRange 1 (t .n) places && (masksInRange t && (partiesInRange t && callsInRange t))
+tailInRange t = headerInRange (headerOf t) && (messagesInRange t && (partiesInRange t && callsInRange t))
 
 -- The way back and the numbers belong together: decode after encode is the identity, encode after decode on what is in range
 pub record TailNumbers : Type 0 where

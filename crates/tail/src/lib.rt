@@ -9,6 +9,7 @@ use rules::PARTIES;
 use rules::Release;
 use rules::Site;
 use rules::TYPES;
+use schedule::Header;
 use store::LOGS;
 use store::LogPair;
 use store::LogRecord;
@@ -17,7 +18,7 @@ ghost use mathlib.Core.Path.{_≡_};
 ghost use mathlib.Core.Bool.{true};
 ghost use Prim.Native.Nat.{_≤_, _<_};
 ghost use Rattle.store.specs.Log.{places};
-ghost use Rattle.tail.specs.Tail.{tabulate, fieldsOf, tailOf, siteOf, pairOf, fieldsAt, releaseOf, messagesInRange, masksInRange, recordsInRange, fieldsZero, participantInRange, participantsInRange, partiesInRange, countInRange, callsInRange, tailInRange};
+ghost use Rattle.tail.specs.Tail.{tabulate, fieldsOf, tailOf, siteOf, pairOf, fieldsAt, releaseOf, messagesInRange, recordsInRange, fieldsZero, participantInRange, participantsInRange, partiesInRange, countInRange, callsInRange, tailInRange};
 
 // A participant's state, heard mask, and its log's first and last record.
 pub struct ParticipantFields {
@@ -257,17 +258,6 @@ impl Tail {
         true
     }
 
-    fn masks_in_range(self) -> bool
-        requires { ⌜ self .n ≤ 32 ⌝ }
-        ensures { λ b. ⌜ b ≡ masksInRange self ⌝ }
-    {
-        if mask::within(self.votes, self.n) {
-            self.messages_in_range()
-        } else {
-            false
-        }
-    }
-
     fn parties_in_range(self) -> bool
         requires { ⌜ self .n ≤ 32 ⌝ }
         ensures { λ b. ⌜ b ≡ partiesInRange self ⌝ }
@@ -283,9 +273,12 @@ impl Tail {
     pub fn in_range(self) -> bool
         ensures { λ b. ⌜ b ≡ tailInRange self ⌝ }
     {
-        let n = self.n;
-        if kind::between(1, n, LOGS as u32) {
-            if self.masks_in_range() {
+        let header = Header {
+            n: self.n,
+            votes: self.votes,
+        };
+        if header.in_range() {
+            if self.messages_in_range() {
                 if self.parties_in_range() {
                     self.calls_in_range()
                 } else {

@@ -1,5 +1,6 @@
 -- `tail::Tail::in_range` meets its contract, case by case. Assumes nothing.
-use Rattle.kind.proofs.Numbers.{between}
+use Rattle.schedule.proofs.Laws.{header-size}
+use Rattle.tail.specs.Tail.{headerOf}
 use native.Mathlib.Omega.{arith}
 use mathlib.Core.Path.{sym, _∙_}
 use borrow.Author.Needs.{needs}
@@ -10,12 +11,11 @@ pub in-range-spec : {M : Type 1} → statement M
 in-range-spec =
     tie.close
     (tie.spec
-    (λ c. search needs)
     (λ c κs. search needs)
-    (λ c κs. omega (arith, between 1 (c .before .before .args .self .n) 8 (sym (c .before .between .ensures) ∙ c .if1 .taken)))
-    (λ c κs. omega (arith, between 1 (c .before .before .before .before .args .self .n) 8 (sym (c .before .before .before .between .ensures) ∙ c .before .before .if1 .taken)))
+    (λ c κs. omega (arith, header-size (headerOf (c .before .before .args .self)) (sym (c .before .in-range .ensures) ∙ c .if1 .taken)))
+    (λ c κs. omega (arith, header-size (headerOf (c .before .before .before .before .args .self)) (sym (c .before .before .before .in-range .ensures) ∙ c .before .before .if1 .taken)))
     (λ c κs. search needs)
-    (λ c. simp (c .calls-in-range .ensures, sym (c .before .before .parties-in-range .ensures) ∙ c .before .if3 .taken, sym (c .before .before .before .before .masks-in-range .ensures) ∙ c .before .before .before .if2 .taken, sym (c .before .before .before .before .before .before .between .ensures) ∙ c .before .before .before .before .before .if1 .taken))
-    (λ c. simp (sym (c .before .parties-in-range .ensures) ∙ c .if3 .left, sym (c .before .before .before .masks-in-range .ensures) ∙ c .before .before .if2 .taken, sym (c .before .before .before .before .before .between .ensures) ∙ c .before .before .before .before .if1 .taken))
-    (λ c. simp (sym (c .before .masks-in-range .ensures) ∙ c .if2 .left, sym (c .before .before .before .between .ensures) ∙ c .before .before .if1 .taken))
-    (λ c. simp (sym (c .before .between .ensures) ∙ c .if1 .left)))
+    (λ c. simp (c .calls-in-range .ensures, sym (c .before .before .parties-in-range .ensures) ∙ c .before .if3 .taken, sym (c .before .before .before .before .messages-in-range .ensures) ∙ c .before .before .before .if2 .taken, sym (c .before .before .before .before .before .before .in-range .ensures) ∙ c .before .before .before .before .before .if1 .taken))
+    (λ c. simp (sym (c .before .parties-in-range .ensures) ∙ c .if3 .left, sym (c .before .before .before .messages-in-range .ensures) ∙ c .before .before .if2 .taken, sym (c .before .before .before .before .before .in-range .ensures) ∙ c .before .before .before .before .if1 .taken))
+    (λ c. simp (sym (c .before .messages-in-range .ensures) ∙ c .if2 .left, sym (c .before .before .before .in-range .ensures) ∙ c .before .before .if1 .taken))
+    (λ c. simp (sym (c .before .in-range .ensures) ∙ c .if1 .left)))
