@@ -1,12 +1,12 @@
 -- A release counts the due store calls of each party. Assumes nothing.
-use mathlib.Core.Path.{_≡_, refl, sym, ap, _∙_}
+use mathlib.Core.Path.{_≡_, refl, sym, _∙_}
 use mathlib.Core.List.{[], _∷_}
 use mathlib.Core.Bool.{Bool, true, false, cond, _&&_}
-use Prim.Native.Nat.{ℕ, zero, suc, _+_, _<_}
+use Prim.Native.Nat.{ℕ, zero, suc, _+_, _≤_, _<_}
 use native.Mathlib.Omega.{arith}
-use native.Mathlib.Decide.{ℕ-discrete}
+use native.Mathlib.Decide.{ℕ-discrete, decLt}
 use lib.Dec.{eqb}
-use lib.ListN.{length, getD, set, length-set}
+use lib.ListN.{length, getD, set, List·getD-eq-default}
 use lib.Seq.{getD-set-same, getD-set-other}
 use borrow.Author.Tests.{eq-eqb, ne-eqb}
 use Rattle.coordinator.specs.Coordinator
@@ -16,6 +16,7 @@ use Rattle.rules.specs.Run.{after, isStoreCallOf, callsMade, CallsCounte
 use Rattle.rules.specs.Types.{Participant, Sent, Coordinator, CoordinatorTransition, Message, Step, Start, Deliver, Copy, Lose, Timeout, Crash, Restart, Release, Report}
 use Rattle.rules.proofs.Causes.{Cause, idles, starts, delivers, copies, loses, answered, lost, coordinator-answered, coordinator-lost, times-out, crashes, restarts, coordinator-times-out, coordinator-crashes, coordinator-restarts, cause}
 use Rattle.rules.proofs.Due.{participant-due, coordinator-due}
+use Rattle.rules.proofs.Room.{caused-room}
 
 -- the counts after a transition
 
@@ -40,25 +41,24 @@ receive-calls Message.ReplyAbort i r = goes-calls (Coordinator.onReplyAbort (r .
 receive-calls Message.Commit i r = to-calls i _ Sent.Nothing r
 receive-calls Message.Abort i r = to-calls i _ Sent.Nothing r
 
--- what a step adds to the count of party p, and that the counts keep their room
+-- what a step adds to the count of party p
 
 record Counts (r : Release) (p : ℕ) (s : Step) (t : Report) : Type 0 where
-  room : length (t .next .calls) ≡ length (r .calls)
   added : getD (t .next .calls) p 0 ≡ getD (r .calls) p 0 + cond (isStoreCallOf p s && moves (t .outcome)) 1 0
 
 uncounted : (r : Release) (p : ℕ) (s : Step) (t : Report) → t .next .calls ≡ r .calls → isStoreCallOf p s ≡ false → Counts r p s t
-uncounted r p s t q e = record { room = ap length q; added = rw (q, e) (omega arith) }
+uncounted r p s t q e = record { added = rw (q, e) (omega arith) }
 
 counted : (r : Release) (p q : ℕ) (s : Step) (t : Report) → p < length (r .calls) → t .next .calls ≡ set (r .calls) q (getD (r .calls) q 0 + 1)
     → isStoreCallOf p s ≡ eqb q p → moves (t .outcome) ≡ true → Counts r p s t
-counted r p q s t l e c d = record { room = ap length e ∙ length-set (r .calls) q (getD (r .calls) q 0 + 1); added = rw (e, c, d) (go (ℕ-discrete q p)) }
+counted r p q s t l e c d = record { added = rw (e, c, d) (go (ℕ-discrete q p)) }
   where
     go : Dec (q ≡ p) → getD (set (r .calls) q (getD (r .calls) q 0 + 1)) p 0 ≡ getD (r .calls) p 0 + cond (eqb q p && true) 1 0
     go (yes k) = rw (k, eq-eqb p p refl) (getD-set-same (r .calls) p (getD (r .calls) p 0 + 1) 0 l)
     go (no ne) = rw (ne-eqb q p ne) (getD-set-other (r .calls) q p (getD (r .calls) q 0 + 1) 0 (λ k. ne (sym k)) ∙ omega arith)
 
 caused-counts : (r : Release) (p : ℕ) {s : Step} {t : Report} → Cause r s t → p < length (r .calls) → Counts r p s t
-caused-counts r p (idles {s}) l = record { room = refl; added = idle-adds (isStoreCallOf p s) }
+caused-counts r p (idles {s}) l = record { added = idle-adds (isStoreCallOf p s) }
   where
     idle-adds : (b : Bool) → getD (r .calls) p 0 ≡ getD (r .calls) p 0 + cond (b && false) 1 0
     idle-adds true = omega arith
@@ -87,5 +87,17 @@ calls-counted r [] p l = omega arith
 calls-counted r (s ∷ ss) p l =
     let c : Counts r p s (step r s) = caused-counts r p (cause r s) l in
     let rest : getD (after (step r s .next) ss .calls) p 0 ≡ getD (step r s .next .calls) p 0 + callsMade p (step r s .next) ss =
-    calls-counted (step r s .next) ss p (rw (c .room) l) in
+    calls-counted (step r s .next) ss p (rw (caused-room r (cause r s) .calls) l) in
     omega (arith, c .added)
+
+-- a step adds at most one to each count
+pub one-call-more : (r : Release) (s : Step) (p : ℕ) → getD (step r s .next .calls) p 0 ≤ getD (r .calls) p 0 + 1
+one-call-more r s p = go (decLt p (length (r .calls)))
+  where
+    at-most : (b : Bool) → cond b 1 0 ≤ 1
+    at-most true = omega arith
+    at-most false = omega arith
+
+    go : Dec (p < length (r .calls)) → getD (step r s .next .calls) p 0 ≤ getD (r .calls) p 0 + 1
+    go (yes l) = omega (arith, caused-counts r p (cause r s) l .added, at-most (isStoreCallOf p s && moves (step r s .outcome)))
+    go (no ne) = rw (List·getD-eq-default (step r s .next .calls) 0 {n = p} (rw (caused-room r (cause r s) .calls) (omega arith))) (omega arith)

@@ -1,10 +1,11 @@
--- A run keeps how many places a release has for participants and for logs. Assumes nothing.
+-- A run keeps how many places a release has for participants, logs, messages and counts. Assumes nothing.
 use mathlib.Core.Path.{_≡_, refl, _∙_}
 use mathlib.Core.List.{List, [], _∷_}
-use Prim.Native.Nat.{ℕ, suc}
-use lib.ListN.{length, length-set}
+use Prim.Native.Nat.{ℕ, suc, _+_}
+use lib.ListN.{length, getD, length-set}
 use Rattle.coordinator.specs.Coordinator
-use Rattle.rules.specs.Step.{called, drop, participantTo, coordinatorTo, coordinatorGoes, receive, step}
+use Rattle.rules.specs.State.{messagePlace}
+use Rattle.rules.specs.Step.{withMask, send, drop, sendAll, withParticipant, withCoordinator, called, participantTo, coordinatorTo, coordinatorGoes, receive, step}
 use Rattle.rules.specs.Run.{after}
 use Rattle.rules.specs.Types.{LogPair, Participant, Sent, Coordinator, CoordinatorTransition, Message, Step, Release, Report}
 use Rattle.rules.proofs.Causes.{Cause, idles, starts, delivers, copies, loses, answered, lost, coordinator-answered, coordinator-lost, times-out, crashes, restarts, coordinator-times-out, coordinator-crashes, coordinator-restarts, cause}
@@ -12,19 +13,35 @@ use Rattle.rules.proofs.Causes.{Cause, idles, starts, delivers, copies,
 pub record SameRoom (r t : Release) : Type 0 where
   pub sites : length (t .sites) ≡ length (r .sites)
   pub logs : length (t .store .logs) ≡ length (r .store .logs)
+  pub messages : length (t .messages) ≡ length (r .messages)
+  pub calls : length (t .calls) ≡ length (r .calls)
 
 room-refl : (r : Release) → SameRoom r r
-room-refl r = record { sites = refl; logs = refl }
+room-refl r = record { sites = refl; logs = refl; messages = refl; calls = refl }
+
+-- a mask in the place of another
+masked : (m : Message) (x : ℕ) (r : Release) → SameRoom r (withMask m x r)
+masked m x r = record { sites = refl; logs = refl; messages = length-set (r .messages) (messagePlace m) x; calls = refl }
+
+placed : (i : ℕ) (p : Participant) (r : Release) → SameRoom r (withParticipant i p r)
+placed i p r = record { sites = length-set (r .sites) i (record { participant = p }); logs = refl; messages = refl; calls = refl }
+
+led : (c : Coordinator) (r : Release) → SameRoom r (withCoordinator c r)
+led c r = record { sites = refl; logs = refl; messages = refl; calls = refl }
+
+room-then : (r s t : Release) → SameRoom r s → SameRoom s t → SameRoom r t
+room-then r s t a b =
+    record { sites = b .sites ∙ a .sites; logs = b .logs ∙ a .logs; messages = b .messages ∙ a .messages; calls = b .calls ∙ a .calls }
 
 to-room : (i : ℕ) (p : Participant) (s : Sent) (r : Release) → SameRoom r (participantTo i p s r .next)
 unfolding participantTo
-to-room i p Sent.Nothing r = record { sites = length-set (r .sites) i (record { participant = p }); logs = refl }
-to-room i p (Sent.Sends m) r = record { sites = length-set (r .sites) i (record { participant = p }); logs = refl }
+to-room i p Sent.Nothing r = placed i p r
+to-room i p (Sent.Sends m) r = room-then r (send m i r) _ (masked m _ r) (placed i p (send m i r))
 
 coordinator-room : (c : Coordinator) (s : Sent) (r : Release) → SameRoom r (coordinatorTo c s r .next)
 unfolding coordinatorTo
-coordinator-room c Sent.Nothing r = record { sites = refl; logs = refl }
-coordinator-room c (Sent.Sends m) r = record { sites = refl; logs = refl }
+coordinator-room c Sent.Nothing r = led c r
+coordinator-room c (Sent.Sends m) r = room-then r (sendAll m r) _ (masked m _ r) (led c (sendAll m r))
 
 goes-room : (t : CoordinatorTransition) (r : Release) → SameRoom r (coordinatorGoes t r .next)
 goes-room CoordinatorTransition.NotDue r = room-refl r
@@ -38,17 +55,15 @@ receive-room Message.Commit i r = to-room i _ Sent.Nothing r
 receive-room Message.Abort i r = to-room i _ Sent.Nothing r
 
 called-room : (p j : ℕ) (l : LogPair) (r : Release) → SameRoom r (called p j l r)
-called-room p j l r = record { sites = refl; logs = length-set (r .store .logs) j l }
+called-room p j l r =
+    record { sites = refl; logs = length-set (r .store .logs) j l; messages = refl; calls = length-set (r .calls) p (getD (r .calls) p 0 + 1) }
 
-room-then : (r s t : Release) → SameRoom r s → SameRoom s t → SameRoom r t
-room-then r s t a b = record { sites = b .sites ∙ a .sites; logs = b .logs ∙ a .logs }
-
-caused-room : (r : Release) {s : Step} {t : Report} → Cause r s t → SameRoom r (t .next)
+pub caused-room : (r : Release) {s : Step} {t : Report} → Cause r s t → SameRoom r (t .next)
 caused-room r idles = room-refl r
 caused-room r (starts {c} {x} q) = coordinator-room c x r
-caused-room r (delivers {m} {i} b) = room-then r (drop m i r) _ (record { sites = refl; logs = refl }) (receive-room m i (drop m i r))
+caused-room r (delivers {m} {i} b) = room-then r (drop m i r) _ (masked m _ r) (receive-room m i (drop m i r))
 caused-room r (copies {m} {i} b) = receive-room m i r
-caused-room r loses = record { sites = refl; logs = refl }
+caused-room r (loses {m}) = masked m _ r
 caused-room r (answered {i} {j} {l} {p} {x} a) = room-then r (called (suc i) j (l .log) r) _ (called-room (suc i) j (l .log) r) (to-room i p x (called (suc i) j (l .log) r))
 caused-room r (lost {i} {j} {l} a) = called-room (suc i) j (l .log) r
 caused-room r (coordinator-answered {j} {l} {c} {x} a) = room-then r (called 0 j (l .log) r) _ (called-room 0 j (l .log) r) (coordinator-room c x (called 0 j (l .log) r))

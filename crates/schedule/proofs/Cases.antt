@@ -11,7 +11,7 @@ use Rattle.number.specs.Refusal.{Handed, hands, accepted, emptyOrTooLong, unkno
 use Rattle.kind.specs.Step.{AllInRange}
 use Rattle.schedule.specs.Types.{Step, Header, Before}
 use Rattle.schedule.specs.Reader.{readerAnswers, readHands}
-use Rattle.schedule.specs.Writer.{writerAnswers, writerHands}
+use Rattle.schedule.specs.Writer.{writerAnswers, writtenHands}
 use Rattle.schedule.specs.Schedule.{Reading, Accepted, Refused, stepsFrom, readSchedule, stepsBytes, scheduleBytes}
 use Rattle.schedule.specs.RoundTrip.{too-long}
 use Rattle.schedule.proofs.RoundTrip.{steps-kept, first-refusal}
@@ -171,5 +171,5 @@ writes =
     ∷ write 0 0 8 9 0 outOfRange 0
     ∷ []
 
-writes-hold : allHold (λ c. same (writerHands (writerAnswers (c .room) (c .place) (c .kind) (c .first) (c .second))) (c .handed)) writes ≡ true
+writes-hold : allHold (λ c. same (writtenHands (writerAnswers (c .room) (c .place) (c .kind) (c .first) (c .second))) (c .handed)) writes ≡ true
 writes-hold = refl

@@ -98,6 +98,9 @@ at-first bytes before =
         either (leb (length bytes) (bodyLength k)) _ _ refl
         (either (isPlaced before k) _ _ (either (inRangeAfter before r) (Read.Record r (recordLength r)) _ tt refl) refl)
 
+pub refused-at-first : (bytes : List ℕ) (before : Before) (k p : ℕ) → readerAnswers bytes before ≡ Read.Refused k p → p ≡ 0
+refused-at-first bytes before k p e = subst AtFirst e (at-first bytes before)
+
 -- steps that are read, and then a record that is refused
 record StoppedAt (h : Header) (place : ℕ) (bytes : List ℕ) (k at : ℕ) : Type 0 where
   steps : List Step
@@ -154,7 +157,7 @@ says h place (x ∷ bytes) zero fits = rw (add-zero place) (read (readerAnswers 
         let there : suc place + (l - 1) ≡ place + recordLength r = omega (arith, y .size) in
         rw whole (says-more h place r (drop (l - 1) bytes) (y .follows) (stepsFrom h (suc place) bytes (l - 1)) (rw there at (next (l - 1) room)))
     read (Read.Refused k p) e next =
-        let here : p ≡ 0 = subst AtFirst e (at-first (x ∷ bytes) (Before.Header h)) in
+        let here : p ≡ 0 = refused-at-first (x ∷ bytes) (Before.Header h) k p e in
         record {
           steps = [];
           rest = x ∷ bytes;
@@ -200,7 +203,7 @@ read-says bytes = by-length (ltb longest (length bytes)) refl
         let said : Says h 3 (drop l bytes) x = subst (λ p. Says h p (drop l bytes) x) (add-zero l ∙ three) (says h l (drop l bytes) 0 (omega arith)) in
         subst (λ b. SaysWhole b x) (sym front) (says-whole h (drop l bytes) ranged (subst (λ b. length b ≤ longest) front fits) x said)
     by-header (Read.Refused k p) fits e =
-        let here : p ≡ 0 = subst AtFirst e (at-first bytes Before.Nothing) in
+        let here : p ≡ 0 = refused-at-first bytes Before.Nothing k p e in
         rw here (at-header fits (e ∙ ap (Read.Refused k) here))
 
     by-length : (b : Bool) → ltb longest (length bytes) ≡ b → SaysWhole bytes (cond b (Refused emptyOrTooLong 0) (stepsAfter bytes (readerAnswers bytes Before.Nothing)))

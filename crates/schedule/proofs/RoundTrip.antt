@@ -5,11 +5,11 @@ use mathlib.Core.Bool.{true}
 use mathlib.Core.List.{List, [], _∷_, _++_, map, append-assoc, append-nil}
 use Prim.Native.Nat.{ℕ, zero, suc, _+_, _-_, _≤_}
 use native.Mathlib.Omega.{arith}
-use native.Mathlib.Nat.{add-zero}
-use lib.ListN.{length, set, take, drop}
+use lib.ListN.{length, take, drop}
 use lib.Seq.{sets, sets-eq, length-sets, length-take-le, take-at, drop-at}
 use borrow.Author.Tests.{lt-ltb, le-ltb}
 use Rattle.number.proofs.Laws.{and-right}
+use Rattle.number.proofs.Lists.{sets-append}
 use Rattle.store.specs.Log.{places}
 use Rattle.kind.specs.Kind.{bodyLength}
 use Rattle.kind.specs.Step.{AllInRange}
@@ -102,12 +102,6 @@ write-after-read bytes before r l e buffer place near room =
     (w .0 ∙ ap (λ n. Written.Done (place + n)) (sym (y .size)), w .1 ∙ ap (sets buffer place) (sym same))
 
 -- A whole schedule through the writer
-
-sets-append : (l : List ℕ) (i : ℕ) (xs ys : List ℕ) → sets l i (xs ++ ys) ≡ sets (sets l i xs) (i + length xs) ys
-sets-append l i [] ys = ap (λ j. sets l j ys) (sym (add-zero i))
-sets-append l i (x ∷ xs) ys =
-    let e : suc i + length xs ≡ i + suc (length xs) = omega arith in
-    sets-append (set l i x) (suc i) xs ys ∙ ap (λ j. sets (sets (set l i x) (suc i) xs) j ys) e
 
 -- one record, and then the others
 turn : (buffer : List ℕ) (place : ℕ) (before : Before) (r : Record) (rs : List Record) (rest : List ℕ) → mayFollow before r ≡ true

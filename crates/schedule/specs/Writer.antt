@@ -27,9 +27,9 @@ abbrev pub writerAnswers : ℕ → ℕ → ℕ → ℕ → ℕ → Written
 writerAnswers room place k a b = cond (isKind k) (recordAnswer room place (recordOf k a b)) (Written.Refused unknownKind place)
 
 -- what each case of the answer hands over: 0 and the place after the record; the refusal's number with the place given, or the length needed
-abbrev pub writerHands : Written → Handed
-writerHands (Written.Done end) = hands accepted end
-writerHands (Written.Refused k v) = hands k v
+abbrev pub writtenHands : Written → Handed
+writtenHands (Written.Done end) = hands accepted end
+writtenHands (Written.Refused k v) = hands k v
 
 -- what it leaves in the buffer
 

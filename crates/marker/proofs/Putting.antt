@@ -1,0 +1,46 @@
+-- A loop that puts the bytes of each element of a list, one after the other. Assumes nothing.
+use mathlib.Core.Path.{_≡_, refl, sym, ap, _∙_}
+use mathlib.Core.List.{List, [], _∷_, _++_}
+use Prim.Native.Nat.{ℕ, suc, _+_, _≤_, _<_}
+use native.Mathlib.Omega.{arith}
+use native.Mathlib.Nat.{add-zero}
+use native.Mathlib.Numerals.{add-one}
+use lib.ListN.{length, getD, drop, length-append, drop-of-length-le}
+use lib.Seq.{sets, length-sets, drop-cons}
+use Rattle.number.proofs.Lists.{sets-append}
+use Rattle.marker.specs.Report.{each}
+
+-- before element i, with `at` the place after those before: what is left gives what the whole gives
+pub record Putting {A : Type 0} (f : A → List ℕ) (xs : List A) (out₀ : List ℕ) (place : ℕ) (out : List ℕ) (at i : ℕ) : Type 0 where
+  pub same : length out ≡ length out₀
+  pub end : at + length (each f (drop i xs)) ≡ place + length (each f xs)
+  pub rest : sets out at (each f (drop i xs)) ≡ sets out₀ place (each f xs)
+
+module _ {A : Type 0} (f : A → List ℕ) (xs : List A) (out₀ : List ℕ) (place : ℕ) where
+  pub put-none : Putting f xs out₀ place out₀ place 0
+  put-none = record { same = refl; end = refl; rest = refl }
+
+  module _ (out : List ℕ) (at i : ℕ) (g : Putting f xs out₀ place out at i) where
+    module _ (d : A) (some : i < length xs) where
+      first : each f (drop i xs) ≡ f (getD xs i d) ++ each f (drop (suc i) xs)
+      unfolding each
+      first = ap (each f) (drop-cons xs i d some)
+
+      long : length (each f (drop i xs)) ≡ length (f (getD xs i d)) + length (each f (drop (suc i) xs))
+      long = ap length first ∙ length-append (f (getD xs i d)) (each f (drop (suc i) xs))
+
+      pub put-room : at + length (f (getD xs i d)) ≤ place + length (each f xs)
+      put-room = omega (arith, long, g .end)
+
+      pub put-next : Putting f xs out₀ place (sets out at (f (getD xs i d))) (at + length (f (getD xs i d))) (i + 1)
+      put-next = rw (add-one i) (record {
+        same = length-sets out at (f (getD xs i d)) ∙ g .same;
+        end = omega (arith, long, g .end);
+        rest = sym (sets-append out at (f (getD xs i d)) (each f (drop (suc i) xs))) ∙ ap (sets out at) (sym first) ∙ g .rest;
+      })
+
+    pub put-all : length xs ≤ i → (at ≡ place + length (each f xs)) × (out ≡ sets out₀ place (each f xs))
+    unfolding each
+    put-all done =
+        let none : each f (drop i xs) ≡ [] = ap (each f) (drop-of-length-le xs done) in
+        (sym (add-zero at) ∙ ap (λ l. at + length l) (sym none) ∙ g .end, ap (sets out at) (sym none) ∙ g .rest)

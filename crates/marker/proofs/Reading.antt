@@ -1,0 +1,78 @@
+-- The steps from a place of a schedule on: a record that is read comes first, a refusal ends them, and their count. Assumes nothing.
+use mathlib.Core.Path.{_≡_, refl, sym, ap, subst, _∙_}
+use mathlib.Core.Bool.{true}
+use mathlib.Core.List.{List, [], _∷_}
+use Prim.Native.Nat.{ℕ, suc, _+_, _-_, _≤_, _<_}
+use native.Mathlib.Omega.{arith}
+use lib.ListN.{length, take, drop, length-drop, drop-of-length-le}
+use lib.Seq.{take-all, drop-drop}
+use Rattle.kind.specs.Step.{inRange}
+use Rattle.schedule.specs.Record.{recordStep, recordLength}
+use Rattle.schedule.specs.Reader.{readerAnswers}
+use Rattle.schedule.specs.Schedule.{Reading, Accepted, Refused, withStep, stepsFrom}
+use Rattle.schedule.proofs.Records.{front-length, read-yielded, record-step}
+use Rattle.schedule.proofs.Reading.{first-step, refused-first, refused-at-first}
+use Rattle.marker.specs.Types.{Step, Header, Record, Before, Read, Written}
+use Rattle.marker.specs.Pass.{readingFrom, countedAfter, counted, stepsOf}
+
+-- a part to the end is what is left of the whole
+pub tail-part : (s : List ℕ) (at : ℕ) → take (length s - at) (drop at s) ≡ drop at s
+tail-part s at = take-all (length s - at) (drop at s) (simp length-drop (omega arith))
+
+-- a record that is read: it stands within the schedule, its step is in range, and it comes first
+pub record First (s : List ℕ) (h : Header) (at : ℕ) (r : Record) (l : ℕ) : Type 0 where
+  pub some : 1 ≤ l
+  pub within : at + l ≤ length s
+  pub ranged : inRange (h .n) (recordStep r) ≡ true
+  pub first : readingFrom s h at ≡ withStep (recordStep r) (readingFrom s h (at + l))
+
+module _ (s : List ℕ) (h : Header) (at : ℕ) (some : at < length s) where
+  some-left : 0 < length (drop at s)
+  some-left = simp length-drop (omega arith)
+
+  pub read-first : (r : Record) (l : ℕ) → readerAnswers (drop at s) (Before.Header h) ≡ Read.Record r l → First s h at r l
+  read-first r l e =
+      let y = read-yielded (drop at s) (Before.Header h) r l e in
+      let rest : List ℕ = drop l (drop at s) in
+      let long = ap length (y .front) ∙ front-length r rest in
+      let there : rest ≡ drop (at + l) s = drop-drop l at s in
+      record {
+        some = omega (arith, y .size);
+        within = omega (arith, y .size, long, length-drop at s, length-drop l (drop at s), some-left);
+        ranged = record-step h r (y .follows) .1;
+        first =
+            ap (λ b. stepsFrom h at b 0) (y .front)
+            ∙ first-step h at r rest (y .follows)
+            ∙ ap (λ n. withStep (recordStep r) (stepsFrom h (at + n) rest 0)) (sym (y .size))
+            ∙ ap (λ b. withStep (recordStep r) (stepsFrom h (at + l) b 0)) there;
+      }
+
+  pub read-refused : (k p : ℕ) → readerAnswers (drop at s) (Before.Header h) ≡ Read.Refused k p → readingFrom s h at ≡ Refused k at
+  read-refused k p e =
+      refused-first h at (drop at s) k some-left (e ∙ ap (Read.Refused k) (refused-at-first (drop at s) (Before.Header h) k p e))
+
+pub none-left : (s : List ℕ) (h : Header) (at : ℕ) → length s ≤ at → readingFrom s h at ≡ Accepted h []
+unfolding stepsFrom
+none-left s h at end = ap (λ b. stepsFrom h at b 0) (drop-of-length-le s end)
+
+-- one step more is counted
+pub count-more : (m : ℕ) (s : Step) (x : Reading) → countedAfter m (withStep s x) ≡ countedAfter (m + 1) x
+count-more m s (Accepted h steps) = ap Written.Done (omega arith)
+count-more m s (Refused k p) = refl
+
+pub done-same : (a b : ℕ) → Written.Done a ≡ Written.Done b → a ≡ b
+done-same a b e = cc
+
+-- where a first step is counted, the others are steps, and it is below the count
+pub one-more : (i count : ℕ) (s : Step) (x : Reading) → countedAfter i (withStep s x) ≡ Written.Done count → i < count
+one-more i count s (Accepted h steps) c = omega (arith, done-same (i + suc (length steps)) count c)
+one-more i count s (Refused k p) c = let z : _≡_ {A = ℕ} 0 1 = cc in absurd (omega arith)
+
+pub step-first : (i count : ℕ) (s : Step) (x : Reading) → countedAfter i (withStep s x) ≡ Written.Done count → stepsOf (withStep s x) ≡ s ∷ stepsOf x
+step-first i count s (Accepted h steps) c = refl
+step-first i count s (Refused k p) c = let z : _≡_ {A = ℕ} 0 1 = cc in absurd (omega arith)
+
+-- what is counted was accepted
+pub steps-counted : (x : Reading) (count : ℕ) → counted x ≡ Written.Done count → length (stepsOf x) ≡ count
+steps-counted (Accepted h steps) count c = omega (arith, done-same (0 + length steps) count c)
+steps-counted (Refused k p) count c = let z : _≡_ {A = ℕ} 0 1 = cc in absurd (omega arith)

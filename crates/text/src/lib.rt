@@ -1,0 +1,73 @@
+// Text in a lent buffer: each function puts its text at a place that has room for it, and answers the place after it.
+ghost use mathlib.Core.Path.{_≡_};
+ghost use Prim.Native.Nat.{_+_, _≤_, _<_};
+ghost use lib.ListN.{length};
+ghost use lib.Seq.{sets};
+ghost use Rattle.text.specs.Text.{digit, decimal, hexadecimal};
+
+// These bytes as they are.
+pub fn put(text: &mut [u8], place: usize, bytes: &[u8]) -> usize
+    requires { ⌜ place + length (now bytes) ≤ length (now text) ⌝ }
+    ensures { λ end. ⌜ (end ≡ place + length (now (bytes .entry))) × (now (text .exit) ≡ sets (now (text .entry)) place (now (bytes .entry))) ⌝ }
+{
+    let mut i: usize = 0;
+    while i < bytes.len() {
+        text[place + i] = bytes[i];
+        i = i + 1;
+    }
+    place + i
+}
+
+// The code of a digit below 16.
+fn digit(d: u8) -> u8
+    requires { ⌜ d < 16 ⌝ }
+    ensures { λ c. ⌜ c ≡ digit d ⌝ }
+{
+    if d < 10 { 48 + d } else { 87 + d }
+}
+
+// How many digits n has in decimal.
+pub fn decimal_length(n: usize) -> usize
+    ensures { λ l. ⌜ l ≡ length (decimal n) ⌝ }
+{
+    let mut rest = n;
+    let mut digits: usize = 1;
+    while 10 <= rest {
+        rest = rest / 10;
+        digits = digits + 1;
+    }
+    digits
+}
+
+// The number in decimal.
+pub fn put_decimal(text: &mut [u8], place: usize, n: usize) -> usize
+    requires { ⌜ place + length (decimal n) ≤ length (now text) ⌝ }
+    ensures { λ end. ⌜ (end ≡ place + length (decimal n)) × (now (text .exit) ≡ sets (now (text .entry)) place (decimal n)) ⌝ }
+{
+    let end = place + decimal_length(n);
+    let mut rest = n;
+    let mut at = end;
+    while place < at {
+        at = at - 1;
+        text[at] = digit((rest % 10) as u8);
+        rest = rest / 10;
+    }
+    end
+}
+
+// The bytes in hexadecimal.
+pub fn put_hexadecimal(text: &mut [u8], place: usize, bytes: &[u8]) -> usize
+    requires { ⌜ place + length (hexadecimal (now bytes)) ≤ length (now text) ⌝ }
+    ensures { λ end. ⌜ (end ≡ place + length (hexadecimal (now (bytes .entry)))) × (now (text .exit) ≡ sets (now (text .entry)) place (hexadecimal (now (bytes .entry)))) ⌝ }
+{
+    let mut at = place;
+    let mut i: usize = 0;
+    while i < bytes.len() {
+        let b = bytes[i];
+        text[at] = digit(b / 16);
+        text[at + 1] = digit(b % 16);
+        at = at + 2;
+        i = i + 1;
+    }
+    at
+}
