@@ -1,1 +1,120 @@
+-- What holds while the steps run: the rest of the schedule, from the release and the report as they are, gives what the whole gives from the
+-- start. Assumes nothing.
+use mathlib.Core.Path.{_≡_, refl, sym, ap, _∙_}
+use mathlib.Core.Bool.{true}
+use mathlib.Core.List.{List, [], _∷_}
+use Prim.Native.Nat.{ℕ, suc, _+_, _≤_, _<_}
+use native.Mathlib.Omega.{arith}
+use native.Mathlib.Numerals.{add-one}
+use lib.ListN.{length, getD, set, drop, length-set}
+use lib.Seq.{sets}
+use Rattle.kind.specs.Step.{inRange}
+use Rattle.schedule.specs.Record.{recordStep, headerInRange, longest}
+use Rattle.schedule.specs.Reader.{readerAnswers}
+use Rattle.schedule.specs.Schedule.{withStep}
+use Rattle.schedule.proofs.Laws.{header-size}
+use Rattle.rules.specs.Report.{outcomeNumber}
+use Rattle.rules.specs.Step.{step}
+use Rattle.rules.specs.Run.{after, Countable}
+use Rattle.rules.proofs.Agreement.{replicate-all}
+use Rattle.rules.proofs.Causes.{cause}
+use Rattle.rules.proofs.Counts.{one-call-more}
+use Rattle.rules.proofs.Room.{caused-room}
+use Rattle.marker.specs.Types.{Step, Header, Record, Before, Read, Written, Release}
+use Rattle.marker.specs.Report.{freshOf, stepBytes}
+use Rattle.marker.specs.Pass.{readingFrom, countedAfter, counted, stepsOf}
+use Rattle.marker.proofs.Reading.{First, read-first, read-refused, none-left, count-more, one-more, step-first}
 
+-- before step i, whose record begins at `at`
+pub record Going (s : List ℕ) (h : Header) (start count : ℕ) (out₀ out : List ℕ) (at i : ℕ) (r : Release) : Type 0 where
+  pub within : at ≤ length s
+  pub few : i ≤ at
+  pub short : length s ≤ longest
+  pub same : length out ≡ length out₀
+  pub room : count ≤ length out₀
+  pub header : headerInRange h ≡ true
+  pub same-n : r .n ≡ h .n
+  pub calls : (p : ℕ) → getD (r .calls) p 0 ≤ i
+  pub left : countedAfter i (readingFrom s h at) ≡ Written.Done count
+  pub ends : after r (stepsOf (readingFrom s h at)) ≡ after (freshOf h) (stepsOf (readingFrom s h start))
+  pub report : sets out i (stepBytes r (stepsOf (readingFrom s h at))) ≡ sets out₀ 0 (stepBytes (freshOf h) (stepsOf (readingFrom s h start)))
+
+pub set-out : (s : List ℕ) (h : Header) (start count : ℕ) (out : List ℕ) → start ≤ length s → length s ≤ longest → count ≤ length out
+    → headerInRange h ≡ true → counted (readingFrom s h start) ≡ Written.Done count → Going s h start count out out start 0 (freshOf h)
+set-out s h start count out within short room header left =
+    record {
+      within = within;
+      few = omega arith;
+      short = short;
+      same = refl;
+      room = room;
+      header = header;
+      same-n = refl;
+      calls = λ p. replicate-all (λ k. k ≤ 0) 9 p 0 (omega arith);
+      left = left;
+      ends = refl;
+      report = refl;
+    }
+
+module _ {s : List ℕ} {h : Header} {start count : ℕ} {out₀ out : List ℕ} {at i : ℕ} {r : Release} (g : Going s h start count out₀ out at i r) (some : at < length s) where
+  -- a step may be taken: n has room in a mask, and every count has room for one call more
+  pub small : r .n ≤ 32
+  small = rw (g .same-n) (omega (arith, header-size h (g .header) .1))
+
+  pub countable : Countable (r .calls)
+  countable p = omega (arith, g .calls p, g .few, g .within, g .short)
+
+  module _ (x : Record) (l : ℕ) (e : readerAnswers (drop at s) (Before.Header h) ≡ Read.Record x l) where
+    first : First s h at x l
+    first = read-first s h at some x l e
+
+    pub ranged : inRange (r .n) (recordStep x) ≡ true
+    ranged = rw (g .same-n) (first .ranged)
+
+    pub fits : at + l ≤ length s
+    fits = first .within
+
+    here : countedAfter i (withStep (recordStep x) (readingFrom s h (at + l))) ≡ Written.Done count
+    here = ap (countedAfter i) (sym (first .first)) ∙ g .left
+
+    pub has-room : i < length out
+    has-room = omega (arith, one-more i count (recordStep x) (readingFrom s h (at + l)) here, g .room, g .same)
+
+    steps : stepsOf (readingFrom s h at) ≡ recordStep x ∷ stepsOf (readingFrom s h (at + l))
+    steps = ap stepsOf (first .first) ∙ step-first i count (recordStep x) (readingFrom s h (at + l)) here
+
+    -- one turn
+    pub go-on : Going s h start count out₀ (set out i (outcomeNumber (step r (recordStep x) .outcome))) (at + l) (i + 1) (step r (recordStep x) .next)
+    go-on =
+        let byte : ℕ = outcomeNumber (step r (recordStep x) .outcome) in
+        let next : Release = step r (recordStep x) .next in
+        let rest : List Step = stepsOf (readingFrom s h (at + l)) in
+        record {
+          within = first .within;
+          few = omega (arith, g .few, first .some);
+          short = g .short;
+          same = length-set out i byte ∙ g .same;
+          room = g .room;
+          header = g .header;
+          same-n = caused-room r (cause r (recordStep x)) .same-n ∙ g .same-n;
+          calls = λ p. omega (arith, one-call-more r (recordStep x) p, g .calls p);
+          left = sym (count-more i (recordStep x) (readingFrom s h (at + l))) ∙ here;
+          ends = ap (after r) (sym steps) ∙ g .ends;
+          report =
+              ap (λ j. sets (set out i byte) j (stepBytes next rest)) (add-one i)
+              ∙ ap (λ l. sets out i (stepBytes r l)) (sym steps)
+              ∙ g .report;
+        }
+
+  -- no refusal comes
+  pub no-refusal : (k p : ℕ) → readerAnswers (drop at s) (Before.Header h) ≡ Read.Refused k p → ⊥
+  no-refusal k p e =
+      let z : _≡_ {A = ℕ} 0 1 = cc (sym (ap (countedAfter i) (read-refused s h at some k p e)) ∙ g .left) in
+      omega arith
+
+-- at the end
+pub arrived : {s : List ℕ} {h : Header} {start count : ℕ} {out₀ out : List ℕ} {at i : ℕ} {r : Release} → Going s h start count out₀ out at i r → length s ≤ at
+    → (r ≡ after (freshOf h) (stepsOf (readingFrom s h start))) × (out ≡ sets out₀ 0 (stepBytes (freshOf h) (stepsOf (readingFrom s h start))))
+arrived {s} {h} {start} {count} {out₀} {out} {at} {i} {r} g end =
+    let e = none-left s h at end in
+    (sym (ap (λ x. after r (stepsOf x)) e) ∙ g .ends, sym (ap (λ x. sets out i (stepBytes r (stepsOf x))) e) ∙ g .report)

@@ -44,3 +44,6 @@ module _ {A : Type 0} (f : A → List ℕ) (xs : List A) (out₀ : List ℕ) (pl
     put-all done =
         let none : each f (drop i xs) ≡ [] = ap (each f) (drop-of-length-le xs done) in
         (sym (add-zero at) ∙ ap (λ l. at + length l) (sym none) ∙ g .end, ap (sets out at) (sym none) ∙ g .rest)
+
+pub add-three : (i : ℕ) → i + 3 ≡ suc (suc (suc i))
+add-three i = omega arith

@@ -1,4 +1,4 @@
--- A run keeps how many places a release has for participants, logs, messages and counts. Assumes nothing.
+-- A run keeps n, and how many places a release has for participants, logs, messages and counts. Assumes nothing.
 use mathlib.Core.Path.{_≡_, refl, _∙_}
 use mathlib.Core.List.{List, [], _∷_}
 use Prim.Native.Nat.{ℕ, suc, _+_}
@@ -11,27 +11,28 @@ use Rattle.rules.specs.Types.{LogPair, Participant, Sent, Coordinator, C
 use Rattle.rules.proofs.Causes.{Cause, idles, starts, delivers, copies, loses, answered, lost, coordinator-answered, coordinator-lost, times-out, crashes, restarts, coordinator-times-out, coordinator-crashes, coordinator-restarts, cause}
 
 pub record SameRoom (r t : Release) : Type 0 where
+  pub same-n : t .n ≡ r .n
   pub sites : length (t .sites) ≡ length (r .sites)
   pub logs : length (t .store .logs) ≡ length (r .store .logs)
   pub messages : length (t .messages) ≡ length (r .messages)
   pub calls : length (t .calls) ≡ length (r .calls)
 
 room-refl : (r : Release) → SameRoom r r
-room-refl r = record { sites = refl; logs = refl; messages = refl; calls = refl }
+room-refl r = record { same-n = refl; sites = refl; logs = refl; messages = refl; calls = refl }
 
 -- a mask in the place of another
 masked : (m : Message) (x : ℕ) (r : Release) → SameRoom r (withMask m x r)
-masked m x r = record { sites = refl; logs = refl; messages = length-set (r .messages) (messagePlace m) x; calls = refl }
+masked m x r = record { same-n = refl; sites = refl; logs = refl; messages = length-set (r .messages) (messagePlace m) x; calls = refl }
 
 placed : (i : ℕ) (p : Participant) (r : Release) → SameRoom r (withParticipant i p r)
-placed i p r = record { sites = length-set (r .sites) i (record { participant = p }); logs = refl; messages = refl; calls = refl }
+placed i p r = record { same-n = refl; sites = length-set (r .sites) i (record { participant = p }); logs = refl; messages = refl; calls = refl }
 
 led : (c : Coordinator) (r : Release) → SameRoom r (withCoordinator c r)
-led c r = record { sites = refl; logs = refl; messages = refl; calls = refl }
+led c r = record { same-n = refl; sites = refl; logs = refl; messages = refl; calls = refl }
 
 room-then : (r s t : Release) → SameRoom r s → SameRoom s t → SameRoom r t
 room-then r s t a b =
-    record { sites = b .sites ∙ a .sites; logs = b .logs ∙ a .logs; messages = b .messages ∙ a .messages; calls = b .calls ∙ a .calls }
+    record { same-n = b .same-n ∙ a .same-n; sites = b .sites ∙ a .sites; logs = b .logs ∙ a .logs; messages = b .messages ∙ a .messages; calls = b .calls ∙ a .calls }
 
 to-room : (i : ℕ) (p : Participant) (s : Sent) (r : Release) → SameRoom r (participantTo i p s r .next)
 unfolding participantTo
@@ -56,7 +57,7 @@ receive-room Message.Abort i r = to-room i _ Sent.Nothing r
 
 called-room : (p j : ℕ) (l : LogPair) (r : Release) → SameRoom r (called p j l r)
 called-room p j l r =
-    record { sites = refl; logs = length-set (r .store .logs) j l; messages = refl; calls = length-set (r .calls) p (getD (r .calls) p 0 + 1) }
+    record { same-n = refl; sites = refl; logs = length-set (r .store .logs) j l; messages = refl; calls = length-set (r .calls) p (getD (r .calls) p 0 + 1) }
 
 pub caused-room : (r : Release) {s : Step} {t : Report} → Cause r s t → SameRoom r (t .next)
 caused-room r idles = room-refl r

@@ -47,11 +47,12 @@ pub fn put_decimal(text: &mut [u8], place: usize, n: usize) -> usize
     let end = place + decimal_length(n);
     let mut rest = n;
     let mut at = end;
-    while place < at {
+    while 10 <= rest {
         at = at - 1;
         text[at] = digit((rest % 10) as u8);
         rest = rest / 10;
     }
+    text[place] = digit(rest as u8);
     end
 }
 

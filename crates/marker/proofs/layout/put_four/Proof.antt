@@ -1,0 +1,29 @@
+-- `marker::layout::put_four` meets its contract, case by case. Assumes nothing.
+use mathlib.Core.Path.{_≡_, refl}
+use native.Mathlib.Numerals.{add-one}
+use native.Mathlib.Omega.{arith}
+use lib.ListN.{length-set}
+use Rattle.schedule.proofs.Laws.{add-two}
+use Rattle.marker.proofs.Putting.{add-three}
+use borrow.Author.Needs.{needs}
+use Rattle.marker.proofs.layout.put_four.Statement.{statement}
+use Rattle.marker.proofs.layout.put_four.Tie as tie
+
+pub put-four-spec : {M : Type 1} → statement M
+put-four-spec =
+    tie.close
+    (tie.spec
+    (λ c κs. search needs)
+    (λ c. search needs)
+    (λ c κs. search needs)
+    (λ c. search needs)
+    (λ c. simp length-set (omega (arith, c .before .before .before .pre)))
+    (λ c κs. search needs)
+    (λ c. search needs)
+    (λ c. simp length-set (omega (arith, c .before .before .before .before .pre)))
+    (λ c κs. search needs)
+    (λ c. search needs)
+    (λ c. simp length-set (omega (arith, c .before .before .before .before .before .pre)))
+    (λ c. search needs)
+    (λ c. search needs)
+    (λ c. simp (add-one, add-two, add-three, c .byte4 .ensures, c .before .byte3 .ensures, c .before .before .byte2 .ensures, c .before .before .before .byte .ensures) (refl, refl)))

@@ -1,0 +1,15 @@
+-- `marker::refused_at` meets its contract, case by case. Assumes nothing.
+use mathlib.Core.Path.{ap, sym}
+use borrow.Author.Needs.{needs}
+use Rattle.marker.specs.Pass.{refusedAt}
+use Rattle.marker.proofs.refused_at.Statement.{statement}
+use Rattle.marker.proofs.refused_at.Tie as tie
+
+pub refused-at-spec : {M : Type 1} → statement M
+refused-at-spec =
+    tie.close
+    (tie.spec
+    (λ c. search needs)
+    (λ c. search needs)
+    (λ c. simp (c .before .found .given .1))
+    (λ c. simp (c .before .found2 .given .1)))
