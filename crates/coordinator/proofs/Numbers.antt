@@ -1,7 +1,12 @@
 -- The numbers of a coordinator's states, with their heard masks, and the way back belong together. Assumes nothing.
 use mathlib.Core.Path.{_≡_, refl}
+use mathlib.Core.Bool.{true}
+use Prim.Native.Nat.{ℕ, _≤_}
+use lib.Dec.{lit≤}
+use Rattle.mask.specs.Mask.{within}
+use Rattle.mask.proofs.Laws.{none-within}
 use Rattle.number.specs.Numbering.{Inverse2}
-use Rattle.number.proofs.Laws.{inverse2}
+use Rattle.number.proofs.Laws.{and-left, inverse2}
 use Rattle.coordinator.specs.Types.{Coordinator}
 use Rattle.coordinator.specs.Coordinator
 
@@ -16,3 +21,22 @@ coordinator-decoded Coordinator.Retired = refl
 
 pub coordinator-numbers : Inverse2 Coordinator.stateNumber Coordinator.heardOf Coordinator.coordinatorOf
 coordinator-numbers = inverse2 Coordinator.stateNumber Coordinator.heardOf Coordinator.coordinatorOf coordinator-decoded
+
+pub state-most : (c : Coordinator) → Coordinator.stateNumber c ≤ 6
+state-most Coordinator.Idle = lit≤ tt
+state-most (Coordinator.Waiting h) = lit≤ tt
+state-most (Coordinator.Terminating h) = lit≤ tt
+state-most Coordinator.Commit = lit≤ tt
+state-most Coordinator.Abort = lit≤ tt
+state-most Coordinator.Down = lit≤ tt
+state-most Coordinator.Retired = lit≤ tt
+
+-- a heard mask in range has nobody beyond n
+pub heard-within : (n : ℕ) (c : Coordinator) → Coordinator.inRange n c ≡ true → within n (Coordinator.heardOf c) ≡ true
+heard-within n Coordinator.Idle q = none-within n
+heard-within n (Coordinator.Waiting h) q = and-left (within n h) _ q
+heard-within n (Coordinator.Terminating h) q = and-left (within n h) _ q
+heard-within n Coordinator.Commit q = none-within n
+heard-within n Coordinator.Abort q = none-within n
+heard-within n Coordinator.Down q = none-within n
+heard-within n Coordinator.Retired q = none-within n

@@ -14,23 +14,10 @@ use Rattle.rules.proofs.Ranges.{ParticipantInRange, participant-held, Guard, Gu
 use Rattle.kind.specs.Step.{numberInRange}
 use Rattle.kind.proofs.Numbers.{between}
 use Rattle.host.specs.Types.{Call, Sent, Participant, Transition, NotDue, To, Event}
-use Rattle.host.specs.Event.{eventOf, isEvent, isWritten, eventInRange, numbersInRange}
+use Rattle.host.specs.Event.{eventOf, isEvent, isWritten, eventInRange}
 use Rattle.host.specs.Host.{answers, onEvent, hostInRange, hostTransition, HeardFits}
 
--- numbers that fit a byte
-
-pub state-small : (p : Participant) → Participant.stateNumber p < 256
-state-small Participant.Waiting = omega arith
-state-small Participant.VotingYes = omega arith
-state-small Participant.Closing = omega arith
-state-small Participant.Uncertain = omega arith
-state-small (Participant.Terminating h) = omega arith
-state-small Participant.RecordingCommit = omega arith
-state-small Participant.RecordingAbort = omega arith
-state-small Participant.DoneCommit = omega arith
-state-small Participant.DoneAbort = omega arith
-state-small Participant.Down = omega arith
-
+-- a message's number fits a byte
 pub sent-small : (s : Sent) → sentNumber s < 256
 sent-small Sent.Nothing = omega arith
 sent-small (Sent.Sends m) = omega (arith, type-most m)

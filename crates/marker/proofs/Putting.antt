@@ -1,6 +1,6 @@
 -- A loop that puts the bytes of each element of a list, one after the other. Assumes nothing.
 use mathlib.Core.Path.{_≡_, refl, sym, ap, _∙_}
-use mathlib.Core.List.{List, [], _∷_, _++_}
+use mathlib.Core.List.{List, [], _++_}
 use Prim.Native.Nat.{ℕ, suc, _+_, _≤_, _<_}
 use native.Mathlib.Omega.{arith}
 use native.Mathlib.Nat.{add-zero}
@@ -8,6 +8,7 @@ use native.Mathlib.Numerals.{add-one}
 use lib.ListN.{length, getD, drop, length-append, drop-of-length-le}
 use lib.Seq.{sets, length-sets, drop-cons}
 use Rattle.number.proofs.Lists.{sets-append}
+use Rattle.text.specs.Put.{Put}
 use Rattle.marker.specs.Report.{each}
 
 -- before element i, with `at` the place after those before: what is left gives what the whole gives
@@ -39,11 +40,11 @@ module _ {A : Type 0} (f : A → List ℕ) (xs : List A) (out₀ : List ℕ) (pl
         rest = sym (sets-append out at (f (getD xs i d)) (each f (drop (suc i) xs))) ∙ ap (sets out at) (sym first) ∙ g .rest;
       })
 
-    pub put-all : length xs ≤ i → (at ≡ place + length (each f xs)) × (out ≡ sets out₀ place (each f xs))
+    pub put-all : length xs ≤ i → Put out₀ place (each f xs) at out
     unfolding each
     put-all done =
         let none : each f (drop i xs) ≡ [] = ap (each f) (drop-of-length-le xs done) in
-        (sym (add-zero at) ∙ ap (λ l. at + length l) (sym none) ∙ g .end, ap (sets out at) (sym none) ∙ g .rest)
+        record { ends = sym (add-zero at) ∙ ap (λ l. at + length l) (sym none) ∙ g .end; leaves = ap (sets out at) (sym none) ∙ g .rest }
 
 pub add-three : (i : ℕ) → i + 3 ≡ suc (suc (suc i))
 add-three i = omega arith

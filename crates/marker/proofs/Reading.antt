@@ -1,13 +1,15 @@
 -- The steps from a place of a schedule on: a record that is read comes first, a refusal ends them, and their count. Assumes nothing.
-use mathlib.Core.Path.{_≡_, refl, sym, ap, subst, _∙_}
+use mathlib.Core.Path.{_≡_, refl, sym, ap, _∙_}
 use mathlib.Core.Bool.{true}
 use mathlib.Core.List.{List, [], _∷_}
 use Prim.Native.Nat.{ℕ, suc, _+_, _-_, _≤_, _<_}
 use native.Mathlib.Omega.{arith}
 use lib.ListN.{length, take, drop, length-drop, drop-of-length-le}
 use lib.Seq.{take-all, drop-drop}
+use Rattle.number.proofs.Laws.{and-left, and-right}
+use Rattle.kind.specs.Kind.{isHeader}
 use Rattle.kind.specs.Step.{inRange}
-use Rattle.schedule.specs.Record.{recordStep, recordLength}
+use Rattle.schedule.specs.Record.{recordHeader, recordStep, headerInRange}
 use Rattle.schedule.specs.Reader.{readerAnswers}
 use Rattle.schedule.specs.Schedule.{Reading, Accepted, Refused, withStep, stepsFrom}
 use Rattle.schedule.proofs.Records.{front-length, read-yielded, record-step}
@@ -18,6 +20,13 @@ use Rattle.marker.specs.Pass.{readingFrom, countedAfter, counted, stepsO
 -- a part to the end is what is left of the whole
 pub tail-part : (s : List ℕ) (at : ℕ) → take (length s - at) (drop at s) ≡ drop at s
 tail-part s at = take-all (length s - at) (drop at s) (simp length-drop (omega arith))
+
+-- a header that is read stands within the schedule and is in range
+pub header-read : (s : List ℕ) (r : Record) (l : ℕ) → readerAnswers s Before.Nothing ≡ Read.Record r l → (l ≤ length s) × (headerInRange (recordHeader r) ≡ true)
+header-read s r l e =
+    let y = read-yielded s Before.Nothing r l e in
+    let placed : isHeader (r .kind) ≡ true = and-left (isHeader (r .kind)) _ (y .follows) in
+    (omega (arith, ap length (y .front) ∙ front-length r (drop l s), y .size), rw placed at (and-right (isHeader (r .kind)) _ (y .follows)))
 
 -- a record that is read: it stands within the schedule, its step is in range, and it comes first
 pub record First (s : List ℕ) (h : Header) (at : ℕ) (r : Record) (l : ℕ) : Type 0 where

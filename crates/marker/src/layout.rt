@@ -8,7 +8,7 @@ ghost use mathlib.Core.Path.{_≡_};
 ghost use mathlib.Core.List.{[], _∷_};
 ghost use Prim.Native.Nat.{_+_, _%_, _≤_};
 ghost use lib.ListN.{length};
-ghost use lib.Seq.{sets};
+ghost use Rattle.text.specs.Put.{Put};
 ghost use Rattle.marker.specs.Report.{each, countBytes};
 ghost use Rattle.marker.specs.Pass.{lowBytes, lowByte, lowFields, lowTail};
 
@@ -21,7 +21,7 @@ fn byte(x: u32) -> u8
 
 fn put_four(report: &mut [u8], place: usize, a: u32, b: u32, c: u32, d: u32) -> usize
     requires { ⌜ place + 4 ≤ length (now report) ⌝ }
-    ensures { λ end. ⌜ (end ≡ place + 4) × (now (report .exit) ≡ sets (now (report .entry)) place (lowBytes (a ∷ b ∷ c ∷ d ∷ []))) ⌝ }
+    ensures { λ end. ⌜ Put (now (report .entry)) place (lowBytes (a ∷ b ∷ c ∷ d ∷ [])) end (now (report .exit)) ⌝ }
 {
     report[place] = byte(a);
     report[place + 1] = byte(b);
@@ -32,7 +32,7 @@ fn put_four(report: &mut [u8], place: usize, a: u32, b: u32, c: u32, d: u32) -> 
 
 fn put_messages(report: &mut [u8], place: usize, messages: [u32; TYPES]) -> usize
     requires { ⌜ place + length (each lowByte messages) ≤ length (now report) ⌝ }
-    ensures { λ end. ⌜ (end ≡ place + length (each lowByte messages)) × (now (report .exit) ≡ sets (now (report .entry)) place (each lowByte messages)) ⌝ }
+    ensures { λ end. ⌜ Put (now (report .entry)) place (each lowByte messages) end (now (report .exit)) ⌝ }
 {
     let mut at = place;
     for i in 0..TYPES {
@@ -49,7 +49,7 @@ fn put_participants(
     participants: [ParticipantFields; LOGS],
 ) -> usize
     requires { ⌜ place + length (each lowFields participants) ≤ length (now report) ⌝ }
-    ensures { λ end. ⌜ (end ≡ place + length (each lowFields participants)) × (now (report .exit) ≡ sets (now (report .entry)) place (each lowFields participants)) ⌝ }
+    ensures { λ end. ⌜ Put (now (report .entry)) place (each lowFields participants) end (now (report .exit)) ⌝ }
 {
     let mut at = place;
     for i in 0..LOGS {
@@ -62,7 +62,7 @@ fn put_participants(
 // Two bytes, low first.
 fn put_count(report: &mut [u8], place: usize, k: u16) -> usize
     requires { ⌜ place + 2 ≤ length (now report) ⌝ }
-    ensures { λ end. ⌜ (end ≡ place + 2) × (now (report .exit) ≡ sets (now (report .entry)) place (countBytes k)) ⌝ }
+    ensures { λ end. ⌜ Put (now (report .entry)) place (countBytes k) end (now (report .exit)) ⌝ }
 {
     report[place] = (k % 256) as u8;
     report[place + 1] = (k / 256) as u8;
@@ -72,7 +72,7 @@ fn put_count(report: &mut [u8], place: usize, k: u16) -> usize
 // For parties 0 to 8 the due store calls made.
 fn put_calls(report: &mut [u8], place: usize, calls: [u16; PARTIES]) -> usize
     requires { ⌜ place + length (each countBytes calls) ≤ length (now report) ⌝ }
-    ensures { λ end. ⌜ (end ≡ place + length (each countBytes calls)) × (now (report .exit) ≡ sets (now (report .entry)) place (each countBytes calls)) ⌝ }
+    ensures { λ end. ⌜ Put (now (report .entry)) place (each countBytes calls) end (now (report .exit)) ⌝ }
 {
     let mut at = place;
     for p in 0..PARTIES {
@@ -84,7 +84,7 @@ fn put_calls(report: &mut [u8], place: usize, calls: [u16; PARTIES]) -> usize
 
 pub fn put_tail(report: &mut [u8], place: usize, t: Tail) -> usize
     requires { ⌜ place + length (lowTail t) ≤ length (now report) ⌝ }
-    ensures { λ end. ⌜ (end ≡ place + length (lowTail t)) × (now (report .exit) ≡ sets (now (report .entry)) place (lowTail t)) ⌝ }
+    ensures { λ end. ⌜ Put (now (report .entry)) place (lowTail t) end (now (report .exit)) ⌝ }
 {
     let messages = t.messages;
     let participants = t.participants;

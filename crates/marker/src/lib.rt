@@ -2,11 +2,10 @@
 // step and write.
 mod layout;
 
-use kind::Step;
+use coordinator::Coordinator;
 use layout::put_tail;
 use number::EMPTY_OR_TOO_LONG;
 use number::TOO_SHORT;
-use coordinator::Coordinator;
 use participant::Participant;
 use release::step::report_byte;
 use release::step::step;
@@ -28,7 +27,7 @@ use tail::Tail;
 ghost use mathlib.Core.Path.{_≡_};
 ghost use mathlib.Core.Bool.{true};
 ghost use Prim.Native.Nat.{_+_, _≤_};
-ghost use lib.ListN.{length, drop};
+ghost use lib.ListN.{length};
 ghost use lib.Seq.{sets};
 ghost use Rattle.rules.specs.Run.{after};
 ghost use Rattle.schedule.specs.Record.{headerInRange, longest};

@@ -201,6 +201,9 @@ full-lt n = omega (arith, pow-pos n)
 pub lt-within : (n m : ℕ) → m < 2 ^ n → within n m ≡ true
 lt-within n m h = le-leb m (full n) (omega arith)
 
+pub none-within : (n : ℕ) → within n 0 ≡ true
+none-within n = le-leb 0 (full n) (omega arith)
+
 pub within-lt : (n m : ℕ) → within n m ≡ true → m < 2 ^ n
 within-lt n m q = omega (arith, leb-true m (full n) q, full-lt n)
 

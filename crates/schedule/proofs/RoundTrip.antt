@@ -55,7 +55,7 @@ first-refusal = record { found = λ bytes k place e. subst (SaysWhole bytes) e (
 
 -- Bytes
 
-all-append : (xs ys : List ℕ) → AllBytes xs → AllBytes ys → AllBytes (xs ++ ys)
+pub all-append : (xs ys : List ℕ) → AllBytes xs → AllBytes ys → AllBytes (xs ++ ys)
 all-append [] ys p q = q
 all-append (x ∷ xs) ys p q = (p .0, all-append xs ys (p .1) q)
 

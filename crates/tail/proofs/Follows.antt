@@ -101,7 +101,7 @@ tail-numbers = record { decoded = release-decoded; encoded = tail-encoded }
 
 -- the tail of a release in range is in range
 
-message-tested : (r : Release) → ReleaseInRange r → (k : ℕ) → k < 5 → within (r .n) (getD (r .messages) k 0) ≡ true
+pub message-tested : (r : Release) → ReleaseInRange r → (k : ℕ) → k < 5 → within (r .n) (getD (r .messages) k 0) ≡ true
 message-tested r g zero h = g .messages Message.Request
 message-tested r g (suc zero) h = g .messages Message.ReplyYes
 message-tested r g (suc (suc zero)) h = g .messages Message.ReplyAbort

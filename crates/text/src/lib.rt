@@ -2,13 +2,13 @@
 ghost use mathlib.Core.Path.{_≡_};
 ghost use Prim.Native.Nat.{_+_, _≤_, _<_};
 ghost use lib.ListN.{length};
-ghost use lib.Seq.{sets};
+ghost use Rattle.text.specs.Put.{Put};
 ghost use Rattle.text.specs.Text.{digit, decimal, hexadecimal};
 
 // These bytes as they are.
 pub fn put(text: &mut [u8], place: usize, bytes: &[u8]) -> usize
     requires { ⌜ place + length (now bytes) ≤ length (now text) ⌝ }
-    ensures { λ end. ⌜ (end ≡ place + length (now (bytes .entry))) × (now (text .exit) ≡ sets (now (text .entry)) place (now (bytes .entry))) ⌝ }
+    ensures { λ end. ⌜ Put (now (text .entry)) place (now (bytes .entry)) end (now (text .exit)) ⌝ }
 {
     let mut i: usize = 0;
     while i < bytes.len() {
@@ -42,7 +42,7 @@ pub fn decimal_length(n: usize) -> usize
 // The number in decimal.
 pub fn put_decimal(text: &mut [u8], place: usize, n: usize) -> usize
     requires { ⌜ place + length (decimal n) ≤ length (now text) ⌝ }
-    ensures { λ end. ⌜ (end ≡ place + length (decimal n)) × (now (text .exit) ≡ sets (now (text .entry)) place (decimal n)) ⌝ }
+    ensures { λ end. ⌜ Put (now (text .entry)) place (decimal n) end (now (text .exit)) ⌝ }
 {
     let end = place + decimal_length(n);
     let mut rest = n;
@@ -59,7 +59,7 @@ pub fn put_decimal(text: &mut [u8], place: usize, n: usize) -> usize
 // The bytes in hexadecimal.
 pub fn put_hexadecimal(text: &mut [u8], place: usize, bytes: &[u8]) -> usize
     requires { ⌜ place + length (hexadecimal (now bytes)) ≤ length (now text) ⌝ }
-    ensures { λ end. ⌜ (end ≡ place + length (hexadecimal (now (bytes .entry)))) × (now (text .exit) ≡ sets (now (text .entry)) place (hexadecimal (now (bytes .entry)))) ⌝ }
+    ensures { λ end. ⌜ Put (now (text .entry)) place (hexadecimal (now (bytes .entry))) end (now (text .exit)) ⌝ }
 {
     let mut at = place;
     let mut i: usize = 0;

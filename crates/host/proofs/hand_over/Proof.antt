@@ -1,5 +1,6 @@
 -- `host::hand_over` meets its contract, case by case. Assumes nothing.
-use Rattle.host.proofs.Laws.{state-small, sent-small}
+use Rattle.participant.proofs.Numbers.{state-most}
+use Rattle.host.proofs.Laws.{sent-small}
 use lib.ListN.{length-set}
 use native.Mathlib.Omega.{arith}
 use mathlib.Core.Path.{refl}
@@ -16,7 +17,7 @@ hand-over-spec =
     (λ c. search needs)
     (λ c. simp (lt-ltb _ _ (c .if1 .taken), c .before .before .t .given .1) (refl, refl))
     (λ c κs. search needs)
-    (λ c. omega (arith, c .number .ensures, state-small (c .before .before .before .t .given .0 .0)))
+    (λ c. omega (arith, c .number .ensures, state-most (c .before .before .before .t .given .0 .0)))
     (λ c. search needs)
     (λ c κs. search needs)
     (λ c. omega (arith, c .heard .ensures, rw (c .before .before .before .before .t .given .1) at (c .before .before .before .before .before .before .before .pre)))

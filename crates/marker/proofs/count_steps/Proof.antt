@@ -6,7 +6,7 @@ use native.Mathlib.Nat.{add-zero}
 use lib.ListN.{length, drop}
 use borrow.Author.Needs.{needs}
 use Rattle.schedule.specs.Reader.{readerAnswers}
-use Rattle.marker.specs.Types.{Before, Read, Written}
+use Rattle.marker.specs.Types.{Before, Written}
 use Rattle.marker.specs.Pass.{readingFrom, countedAfter, counted, refusedAt}
 use Rattle.marker.proofs.Reading.{First, tail-part, read-first, read-refused, none-left, count-more}
 use Rattle.schedule.specs.Record.{recordStep}

@@ -1,7 +1,5 @@
 -- `marker::refused_at` meets its contract, case by case. Assumes nothing.
-use mathlib.Core.Path.{ap, sym}
 use borrow.Author.Needs.{needs}
-use Rattle.marker.specs.Pass.{refusedAt}
 use Rattle.marker.proofs.refused_at.Statement.{statement}
 use Rattle.marker.proofs.refused_at.Tie as tie
 

@@ -1,13 +1,13 @@
 -- `marker::run_steps` meets its contract: what holds while the steps run stands in Going. Assumes nothing.
-use mathlib.Core.Path.{_≡_, refl, sym, ap, _∙_}
-use Prim.Native.Nat.{_+_, _-_, _≤_, _<_}
+use mathlib.Core.Path.{_≡_, sym, ap, _∙_}
+use Prim.Native.Nat.{_-_}
 use native.Mathlib.Omega.{arith}
 use lib.ListN.{length, drop}
 use borrow.Author.Needs.{needs}
 use Rattle.schedule.specs.Reader.{readerAnswers}
 use Rattle.marker.specs.Types.{Before, Read}
 use Rattle.marker.proofs.Reading.{First, tail-part, read-first}
-use Rattle.marker.proofs.Going.{Going, set-out, small, countable, ranged, fits, has-room, go-on, no-refusal, arrived}
+use Rattle.marker.proofs.Going.{Going, set-out, small, countable, ranged, has-room, go-on, no-refusal, arrived}
 use Rattle.marker.proofs.run_steps.Statement.{statement}
 use Rattle.marker.proofs.run_steps.Tie as tie
 

@@ -1,69 +1,54 @@
+-- `marker::run_under` meets its contract: a refusal of the first pass, too short, or the second pass and the tail. Assumes nothing.
+use mathlib.Core.Path.{_≡_, sym, ap, ap₂, _∙_}
+use mathlib.Core.Bool.{cond}
+use mathlib.Core.List.{List}
+use Prim.Native.Nat.{ℕ, _+_}
+use native.Mathlib.Omega.{arith}
+use lib.ListN.{length}
+use lib.Seq.{sets}
+use borrow.Author.Tests.{lt-ltb, le-ltb}
 use borrow.Author.Needs.{needs}
+use Rattle.number.specs.Refusal.{tooShort}
+use Rattle.rules.specs.Run.{after}
+use Rattle.tail.specs.Tail.{tailOf}
+use Rattle.marker.specs.Types.{Written}
+use Rattle.marker.specs.Report.{freshOf, tailBytes, tailLength, reportBytes}
+use Rattle.marker.specs.Pass.{readingFrom, counted, stepsOf, lowTail}
+use Rattle.marker.proofs.TailBytes.{tail-length, tail-low}
+use Rattle.marker.proofs.Under.{refused-counted, steps-ranged, count-few, answer-counted, leaves-counted, whole-report}
 use Rattle.marker.proofs.run_under.Statement.{statement}
 use Rattle.marker.proofs.run_under.Tie as tie
-use Rattle.marker.proofs.run_under.Reads as reads
-use Rattle.marker.proofs.run_under.Lts as lts
-use Rattle.marker.proofs.count_steps.Reads as count-steps-reads
-use Rattle.marker.proofs.layout.put_tail.Reads as put-tail-reads
-use Rattle.marker.proofs.run_steps.Reads as run-steps-reads
-use Rattle.tail.proofs.Tail.of.Reads as of-reads
 
--- src/lib.rt:131:9
-count-steps-requires : tie.Need-count-steps-requires
-count-steps-requires c κs = search needs
+-- the steps that were counted
+count-here : (c : tie.After-found) →
+    let args = c .before .before .before .before .before .args in
+    counted (readingFrom (args .schedule .now) (args .header) (args .start)) ≡ Written.Done (c .found .given .0 .0)
+count-here c = sym (c .before .before .count-steps .ensures) ∙ c .found .given .1
 
--- src/lib.rt:132:23
-enum-known-found : tie.Need-enum-known-found
-enum-known-found c = search needs
-
--- src/lib.rt:133:9
-enum-told : tie.Need-enum-told
-enum-told c = search needs
-
--- src/lib.rt:133:9
-returns : tie.Need-returns
-returns c = ?
-
--- src/lib.rt:135:18
-add-needed : tie.Need-add-needed
-add-needed c = ?
-
--- src/lib.rt:137:9
-returns-2 : tie.Need-returns-2
-returns-2 c = ?
-
--- src/lib.rt:139:9
-run-steps-requires : tie.Need-run-steps-requires
-run-steps-requires c κs = ?
-
--- src/lib.rt:140:29
-of-requires : tie.Need-of-requires
-of-requires c κs = search needs
-
--- src/lib.rt:140:5
-put-tail-requires : tie.Need-put-tail-requires
-put-tail-requires c κs = ?
-
--- src/lib.rt:126:1
-same-length : tie.Need-same-length
-same-length c = search needs
-
--- src/lib.rt:126:1
-returns-3 : tie.Need-returns-3
-returns-3 c = ?
+-- the tail that they leave
+tail-here : (c : tie.After-of) →
+    let args = c .before .before .before .before .before .before .before .before .before .before .before .before .before .args in
+    lowTail (c .of .result) ≡ tailBytes (tailOf (after (freshOf (args .header)) (stepsOf (readingFrom (args .schedule .now) (args .header) (args .start)))))
+tail-here c =
+    let start = c .before .before .before .before .before .before .before .before .before .before .before .before .before in
+    let args = start .args in
+    let steps = stepsOf (readingFrom (args .schedule .now) (args .header) (args .start)) in
+    ap lowTail (c .of .ensures ∙ ap tailOf (c .before .before .before .before .run-steps .ensures .0))
+    ∙ tail-low (args .header) steps (start .pre .2)
+    (steps-ranged (args .schedule .now) (args .header) (args .start) (c .before .before .before .before .before .before .before .before .found .given .0 .0) (count-here (c .before .before .before .before .before .before .before .before)))
 
 pub run-under-spec : {M : Type 1} → statement M
 run-under-spec =
     tie.close
     (tie.spec
-    count-steps-requires
-    enum-known-found
-    enum-told
-    returns
-    add-needed
-    returns-2
-    run-steps-requires
-    of-requires
-    put-tail-requires
-    same-length
-    returns-3)
+    (λ c κs. search needs)
+    (λ c. search needs)
+    (λ c. search needs)
+    (λ c. let args = c .before .before .before .before .before .args in let told = c .enum-told .given in let x = refused-counted (readingFrom (args .schedule .now) (args .header) (args .start)) (told .0 .0) (told .0 .1 .0) (sym (c .before .before .count-steps .ensures) ∙ told .1) (length (args .report .now)) (args .report .now) in (told .1 ∙ sym (x .0), sym (x .1)))
+    (λ c. let args = c .before .before .before .before .before .before .args in omega (arith, count-few (args .schedule .now) (args .header) (args .start) (c .before .found .given .0 .0) (count-here (c .before)), c .before .before .before .before .before .before .pre .1))
+    (λ c. let args = c .before .before .before .before .before .before .before .args in let m = c .before .before .found .given .0 .0 in let k = count-here (c .before .before) in let t = lt-ltb (length (args .report .now)) (m + tailLength) (c .if1 .taken) in (sym (answer-counted (args .schedule .now) (args .header) (args .start) m k (length (args .report .now)) ∙ ap (λ b. cond b (Written.Refused tooShort (m + tailLength)) (Written.Done (m + tailLength))) t), sym (leaves-counted (args .schedule .now) (args .header) (args .start) m k (args .report .now) ∙ ap (λ b. cond b (args .report .now) (sets (args .report .now) 0 (reportBytes (args .header) (stepsOf (readingFrom (args .schedule .now) (args .header) (args .start)))))) t)))
+    (λ c κs. let p = c .before .before .before .before .before .before .before .before .pre in ((p .0, p .1, omega (arith, c .before .if1 .left), p .2), count-here (c .before .before .before)))
+    (λ c κs. search needs)
+    (λ c κs. let args = c .before .before .before .before .before .before .before .before .before .before .before .before .before .args in omega (arith, ap length (tail-here c), tail-length (args .header) (stepsOf (readingFrom (args .schedule .now) (args .header) (args .start))), c .before .before .before .before .before .before .if1 .left, c .before .before .before .before .run-steps .kept))
+    (λ c. search needs)
+    (λ c. let args = c .before .before .before .before .before .before .before .before .before .before .before .before .before .before .before .before .args in let m = c .before .before .before .before .before .before .before .before .before .before .before .found .given .0 .0 in let k = count-here (c .before .before .before .before .before .before .before .before .before .before .before) in let t = le-ltb (length (args .report .now)) (m + tailLength) (c .before .before .before .before .before .before .before .before .before .if1 .left) in (sym (answer-counted (args .schedule .now) (args .header) (args .start) m k (length (args .report .now)) ∙ ap (λ b. cond b (Written.Refused tooShort (m + tailLength)) (Written.Done (m + tailLength))) t), c .before .before .put-tail .ensures .leaves ∙ ap₂ (λ (l z : List ℕ). sets l m z) (c .before .before .before .before .before .before .before .run-steps .ensures .1) (tail-here (c .before .before .before)) ∙ whole-report (args .schedule .now) (args .header) (args .start) m k (args .report .now) ∙ sym (leaves-counted (args .schedule .now) (args .header) (args .start) m k (args .report .now) ∙ ap (λ b. cond b (args .report .now) (sets (args .report .now) 0 (reportBytes (args .header) (stepsOf (readingFrom (args .schedule .now) (args .header) (args .start)))))) t))))

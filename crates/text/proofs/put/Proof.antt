@@ -32,4 +32,4 @@ put-spec =
     (λ c. let turn = c .before .before .loop in let args = c .before .before .before .args in (omega arith, simp length-set (turn .inv .1), next-byte (turn .text) (args .bytes .now) (args .place) (turn .i) (c .before .loop-test .taken) ∙ turn .inv .2))
     (λ c. search needs)
     (λ c. search needs)
-    (λ c. (omega arith, rw (drop-of-length-le (c .before .before .args .bytes .now) (c .loop-test .left)) at (c .before .loop .inv .2))))
+    (λ c. record { ends = omega arith; leaves = rw (drop-of-length-le (c .before .before .args .bytes .now) (c .loop-test .left)) at (c .before .loop .inv .2) }))

@@ -37,4 +37,4 @@ put-decimal-spec =
     (λ c κs. search needs)
     (λ c. omega (arith, length-few (c .before .before .loop .rest) (c .before .loop-test .left)))
     (λ c. simp length-set (c .before .before .loop .inv .2))
-    (λ c. let turn = c .before .before .loop in let args = c .before .before .before .before .before .args in (ap (λ l. args .place + l) (c .before .before .before .decimal-length .ensures), rw (c .digit2 .ensures) (sym (ap (sets (turn .text) (args .place)) (decimal-few (turn .rest) (c .before .loop-test .left))) ∙ turn .inv .3))))
+    (λ c. let turn = c .before .before .loop in let args = c .before .before .before .before .before .args in record { ends = ap (λ l. args .place + l) (c .before .before .before .decimal-length .ensures); leaves = rw (c .digit2 .ensures) (sym (ap (sets (turn .text) (args .place)) (decimal-few (turn .rest) (c .before .loop-test .left))) ∙ turn .inv .3) }))

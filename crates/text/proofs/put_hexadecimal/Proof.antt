@@ -36,4 +36,4 @@ put-hexadecimal-spec =
     (λ c. search needs)
     (λ c. let turn = c .before .before .before .before .loop in let args = c .before .before .before .before .before .before .before .args in (omega arith, omega arith, simp length-set (turn .inv .2), rw (c .before .digit .ensures, c .digit2 .ensures) (next-pair (turn .text) (args .bytes .now) (turn .at) (turn .i) (c .before .before .before .loop-test .taken) ∙ turn .inv .3)))
     (λ c. search needs)
-    (λ c. (omega (arith, hexadecimal-length (c .before .before .before .before .args .bytes .now)), rw (hexadecimal-end (c .before .before .before .before .args .bytes .now) (c .before .loop .i) (c .loop-test .left)) at (c .before .loop .inv .3))))
+    (λ c. record { ends = omega (arith, hexadecimal-length (c .before .before .before .before .args .bytes .now)); leaves = rw (hexadecimal-end (c .before .before .before .before .args .bytes .now) (c .before .loop .i) (c .loop-test .left)) at (c .before .loop .inv .3) }))

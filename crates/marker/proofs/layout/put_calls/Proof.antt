@@ -1,15 +1,11 @@
 -- `marker::layout::put_calls` meets its contract: what is left to put, after what was put, is the whole. Assumes nothing.
-use mathlib.Core.Path.{_≡_, sym, ap, _∙_}
+use mathlib.Core.Path.{_≡_}
 use Prim.Native.Nat.{_-_, _≤_, suc}
 use native.Mathlib.Omega.{arith}
-use lib.ListN.{length, length-map, getD}
-use lib.Seq.{sets}
+use lib.ListN.{length}
 use borrow.Author.Needs.{needs}
 use Rattle.store.specs.Log.{places}
-use Rattle.rules.specs.State.{types}
-use Rattle.marker.specs.Types.{ParticipantFields}
 use Rattle.marker.specs.Report.{countBytes}
-use Rattle.marker.specs.Pass.{lowByte, lowFields}
 use Rattle.marker.proofs.Putting.{Putting, put-none, put-room, put-next, put-all}
 use Rattle.marker.proofs.layout.put_calls.Statement.{statement}
 use Rattle.marker.proofs.layout.put_calls.Tie as tie
@@ -32,6 +28,6 @@ put-calls-spec =
     (λ c κs. let args = c .before .before .before .before .args in let turn = c .before .before .loop in omega (arith, put-room countBytes (args .t3) (args .report .now) (args .place) (turn .report) (turn .at) (turn .p) (turn .inv .2) 0 (omega (arith, turn .inv .1)), turn .inv .2 .same, c .before .before .before .before .pre))
     (λ c. search needs)
     (λ c. search needs)
-    (λ c. let args = c .before .before .before .before .before .before .before .args in let turn = c .before .before .before .before .before .loop in (omega arith, turn .inv .1, rw (c .before .before .put-count .ensures .0, c .before .before .put-count .ensures .1) (put-next countBytes (args .t3) (args .report .now) (args .place) (turn .report) (turn .at) (turn .p) (turn .inv .2) 0 (omega (arith, turn .inv .1)))))
+    (λ c. let args = c .before .before .before .before .before .before .before .args in let turn = c .before .before .before .before .before .loop in (omega arith, turn .inv .1, rw (c .before .before .put-count .ensures .ends, c .before .before .put-count .ensures .leaves) (put-next countBytes (args .t3) (args .report .now) (args .place) (turn .report) (turn .at) (turn .p) (turn .inv .2) 0 (omega (arith, turn .inv .1)))))
     (λ c. c .before .loop .inv .2 .same)
     (λ c. let args = c .before .before .before .args in let turn = c .before .loop in put-all countBytes (args .t3) (args .report .now) (args .place) (turn .report) (turn .at) (turn .p) (turn .inv .2) (omega (arith, turn .inv .1))))

@@ -1,5 +1,5 @@
 -- `marker::layout::put_count` meets its contract, case by case. Assumes nothing.
-use mathlib.Core.Path.{_≡_, refl}
+use mathlib.Core.Path.{refl}
 use native.Mathlib.Numerals.{add-one}
 use native.Mathlib.Omega.{arith}
 use lib.ListN.{length-set}
@@ -18,4 +18,4 @@ put-count-spec =
     (λ c. simp length-set (omega (arith, c .pre)))
     (λ c. search needs)
     (λ c. search needs)
-    (λ c. simp add-one (refl, refl)))
+    (λ c. simp add-one (record { ends = refl; leaves = refl })))

@@ -1,5 +1,5 @@
 -- `marker::layout::put_four` meets its contract, case by case. Assumes nothing.
-use mathlib.Core.Path.{_≡_, refl}
+use mathlib.Core.Path.{refl}
 use native.Mathlib.Numerals.{add-one}
 use native.Mathlib.Omega.{arith}
 use lib.ListN.{length-set}
@@ -26,4 +26,4 @@ put-four-spec =
     (λ c. simp length-set (omega (arith, c .before .before .before .before .before .pre)))
     (λ c. search needs)
     (λ c. search needs)
-    (λ c. simp (add-one, add-two, add-three, c .byte4 .ensures, c .before .byte3 .ensures, c .before .before .byte2 .ensures, c .before .before .before .byte .ensures) (refl, refl)))
+    (λ c. simp (add-one, add-two, add-three, c .byte4 .ensures, c .before .byte3 .ensures, c .before .before .byte2 .ensures, c .before .before .before .byte .ensures) (record { ends = refl; leaves = refl })))

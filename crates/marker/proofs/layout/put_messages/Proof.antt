@@ -1,15 +1,11 @@
 -- `marker::layout::put_messages` meets its contract: what is left to put, after what was put, is the whole. Assumes nothing.
-use mathlib.Core.Path.{_≡_, sym, ap, _∙_}
-use Prim.Native.Nat.{_-_, _≤_, suc}
+use mathlib.Core.Path.{_≡_}
+use Prim.Native.Nat.{_-_, _≤_}
 use native.Mathlib.Omega.{arith}
-use lib.ListN.{length, length-map, getD}
-use lib.Seq.{sets}
+use lib.ListN.{length}
 use borrow.Author.Needs.{needs}
-use Rattle.store.specs.Log.{places}
 use Rattle.rules.specs.State.{types}
-use Rattle.marker.specs.Types.{ParticipantFields}
-use Rattle.marker.specs.Report.{countBytes}
-use Rattle.marker.specs.Pass.{lowByte, lowFields}
+use Rattle.marker.specs.Pass.{lowByte}
 use Rattle.marker.proofs.Putting.{Putting, put-none, put-room, put-next, put-all}
 use Rattle.marker.proofs.layout.put_messages.Statement.{statement}
 use Rattle.marker.proofs.layout.put_messages.Tie as tie
