@@ -1,5 +1,2 @@
-pub mod Reading
-pub mod Putting
-pub mod Going
 pub mod TailBytes
-pub mod Under
+pub mod Ran

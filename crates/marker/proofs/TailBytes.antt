@@ -31,8 +31,10 @@ use Rattle.tail.specs.Tail.{tabulate, fieldsOf, tailOf}
 use Rattle.tail.proofs.Tabulate.{length-tabulate}
 use Rattle.tail.proofs.Follows.{message-tested}
 use Rattle.marker.specs.Types.{Step, Header, Release, ParticipantFields, Tail}
-use Rattle.marker.specs.Report.{freshOf, each, fieldBytes, countBytes, tailBytes, tailLength}
-use Rattle.marker.specs.Pass.{lowBytes, lowByte, lowFields, lowTail}
+use Rattle.text.specs.Put.{each}
+use Rattle.passes.specs.Pass.{freshOf}
+use Rattle.marker.specs.Report.{fieldBytes, countBytes, tailBytes, tailLength}
+use Rattle.marker.specs.Low.{lowBytes, lowByte, lowFields, lowTail}
 
 -- Low eight bits
 

@@ -1,4 +1,4 @@
 pub mod Types
 pub mod Report
 pub mod Run
-pub mod Pass
+pub mod Low

@@ -1,25 +1,11 @@
 -- The report of a header and its steps: one byte a step, then a 59-byte tail. Assumes nothing.
-use mathlib.Core.List.{List, [], _∷_, _++_, map}
+use mathlib.Core.List.{List, [], _∷_, _++_}
 use Prim.Native.Nat.{ℕ, _/_, _%_}
-use Rattle.store.specs.Log.{places}
-use Rattle.rules.specs.State.{fresh}
-use Rattle.rules.specs.Report.{outcomeNumber}
-use Rattle.rules.specs.Run.{outcomes, after}
+use Rattle.rules.specs.Run.{after}
 use Rattle.tail.specs.Tail.{tailOf}
-use Rattle.marker.specs.Types.{Step, Header, Release, ParticipantFields, Tail}
-
--- the release that a header begins
-abbrev pub freshOf : Header → Release
-freshOf h = fresh places (h .n) (h .votes)
-
--- One byte a step: 0 idle, 1 moved, 2 commit, 3 abort
-abbrev pub stepBytes : Release → List Step → List ℕ
-stepBytes r steps = map outcomeNumber (outcomes r steps)
-
--- the bytes of each, one after the other
-unfoldable pub each : {A : Type 0} → (A → List ℕ) → List A → List ℕ
-each f [] = []
-each f (x ∷ xs) = f x ++ each f xs
+use Rattle.text.specs.Put.{each}
+use Rattle.passes.specs.Pass.{freshOf, stepBytes}
+use Rattle.marker.specs.Types.{Step, Header, ParticipantFields, Tail}
 
 -- a participant: state, heard mask, first, last
 abbrev pub fieldBytes : ParticipantFields → List ℕ

@@ -12,3 +12,4 @@ pub use Rattle.rules.specs.declared.Outcome.{Outcome}
 pub use Rattle.rules.specs.declared.Report.{Report}
 pub use Rattle.tail.specs.declared.ParticipantFields.{ParticipantFields}
 pub use Rattle.tail.specs.declared.Tail.{Tail}
+pub use Rattle.passes.specs.declared.Validated.{Validated}

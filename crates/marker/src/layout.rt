@@ -8,9 +8,9 @@ ghost use mathlib.Core.Path.{_≡_};
 ghost use mathlib.Core.List.{[], _∷_};
 ghost use Prim.Native.Nat.{_+_, _%_, _≤_};
 ghost use lib.ListN.{length};
-ghost use Rattle.text.specs.Put.{Put};
-ghost use Rattle.marker.specs.Report.{each, countBytes};
-ghost use Rattle.marker.specs.Pass.{lowBytes, lowByte, lowFields, lowTail};
+ghost use Rattle.text.specs.Put.{Put, each};
+ghost use Rattle.marker.specs.Report.{countBytes};
+ghost use Rattle.marker.specs.Low.{lowBytes, lowByte, lowFields, lowTail};
 
 // A number of the tail, all of which are below 256.
 fn byte(x: u32) -> u8

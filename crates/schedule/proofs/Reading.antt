@@ -168,21 +168,10 @@ says h place (x ∷ bytes) zero fits = rw (add-zero place) (read (readerAnswers 
           there = ap (λ i. place + i) here;
         }
 
--- steps that are read: under the header given, in range, and no more than there are bytes
-
-steps-few : (steps : List Step) → length steps ≤ length (stepsBytes steps)
+-- no more steps than bytes
+pub steps-few : (steps : List Step) → length steps ≤ length (stepsBytes steps)
 steps-few [] = omega arith
 steps-few (s ∷ ss) = omega (arith, front-length (stepRecord s) (stepsBytes ss), steps-few ss)
-
-pub record StepsRead (h : Header) (bytes : List ℕ) (g : Header) (steps : List Step) : Type 0 where
-  pub same : g ≡ h
-  pub ranged : AllInRange (h .n) steps
-  pub few : length steps ≤ length bytes
-
-pub steps-read : (h : Header) (place : ℕ) (bytes : List ℕ) (g : Header) (steps : List Step) → stepsFrom h place bytes 0 ≡ Accepted g steps → StepsRead h bytes g steps
-steps-read h place bytes g steps e =
-    let x = subst (Says h (place + 0) bytes) e (says h place bytes 0 (omega arith)) in
-    record { same = x .0; ranged = x .1; few = omega (arith, steps-few steps, ap length (x .2)) }
 
 -- what a reading says of a whole schedule
 abbrev pub SaysWhole : List ℕ → Reading → Type 0

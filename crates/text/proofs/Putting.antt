@@ -1,12 +1,14 @@
--- Bytes put one after the other. Assumes nothing.
-use mathlib.Core.Path.{sym, ap₂, _∙_}
-use mathlib.Core.List.{List, _++_}
-use Prim.Native.Nat.{ℕ, _+_}
+-- Bytes put one after the other: two parts, and a loop over a list. Assumes nothing.
+use mathlib.Core.Path.{_≡_, refl, sym, ap, ap₂, _∙_}
+use mathlib.Core.List.{List, [], _++_}
+use Prim.Native.Nat.{ℕ, suc, _+_, _≤_, _<_}
+use native.Mathlib.Nat.{add-zero}
+use native.Mathlib.Numerals.{add-one}
 use native.Mathlib.Omega.{arith}
-use lib.ListN.{length-append}
-use lib.Seq.{sets}
+use lib.ListN.{length, getD, drop, length-append, drop-of-length-le}
+use lib.Seq.{sets, length-sets, drop-cons}
 use Rattle.number.proofs.Lists.{sets-append}
-use Rattle.text.specs.Put.{Put}
+use Rattle.text.specs.Put.{Put, each}
 
 -- some, and then others
 pub put-then : {before between after xs ys : List ℕ} {place middle end : ℕ}
@@ -16,3 +18,40 @@ put-then {before} {between} {after} {xs} {ys} {place} {middle} {end} x y =
       ends = omega (arith, x .ends, y .ends, length-append xs ys);
       leaves = y .leaves ∙ ap₂ (λ (l : List ℕ) (i : ℕ). sets l i ys) (x .leaves) (x .ends) ∙ sym (sets-append before place xs ys);
     }
+
+-- A loop that puts the bytes of each element
+
+-- before element i, with `at` the place after those before: what is left gives what the whole gives
+pub record Putting {A : Type 0} (f : A → List ℕ) (xs : List A) (out₀ : List ℕ) (place : ℕ) (out : List ℕ) (at i : ℕ) : Type 0 where
+  pub same : length out ≡ length out₀
+  pub end : at + length (each f (drop i xs)) ≡ place + length (each f xs)
+  pub rest : sets out at (each f (drop i xs)) ≡ sets out₀ place (each f xs)
+
+module _ {A : Type 0} (f : A → List ℕ) (xs : List A) (out₀ : List ℕ) (place : ℕ) where
+  pub put-none : Putting f xs out₀ place out₀ place 0
+  put-none = record { same = refl; end = refl; rest = refl }
+
+  module _ (out : List ℕ) (at i : ℕ) (g : Putting f xs out₀ place out at i) where
+    module _ (d : A) (some : i < length xs) where
+      first : each f (drop i xs) ≡ f (getD xs i d) ++ each f (drop (suc i) xs)
+      unfolding each
+      first = ap (each f) (drop-cons xs i d some)
+
+      long : length (each f (drop i xs)) ≡ length (f (getD xs i d)) + length (each f (drop (suc i) xs))
+      long = ap length first ∙ length-append (f (getD xs i d)) (each f (drop (suc i) xs))
+
+      pub put-room : at + length (f (getD xs i d)) ≤ place + length (each f xs)
+      put-room = omega (arith, long, g .end)
+
+      pub put-next : Putting f xs out₀ place (sets out at (f (getD xs i d))) (at + length (f (getD xs i d))) (i + 1)
+      put-next = rw (add-one i) (record {
+        same = length-sets out at (f (getD xs i d)) ∙ g .same;
+        end = omega (arith, long, g .end);
+        rest = sym (sets-append out at (f (getD xs i d)) (each f (drop (suc i) xs))) ∙ ap (sets out at) (sym first) ∙ g .rest;
+      })
+
+    pub put-all : length xs ≤ i → Put out₀ place (each f xs) at out
+    unfolding each
+    put-all done =
+        let none : each f (drop i xs) ≡ [] = ap (each f) (drop-of-length-le xs done) in
+        record { ends = sym (add-zero at) ∙ ap (λ l. at + length l) (sym none) ∙ g .end; leaves = ap (sets out at) (sym none) ∙ g .rest }

@@ -1,10 +1,9 @@
--- `marker::run` meets its contract: too long, a refusal of the header, or the steps after it. Assumes nothing.
-use mathlib.Core.Path.{refl, sym, _∙_}
-use borrow.Author.Tests.{lt-ltb, le-ltb}
+-- `marker::run` meets its contract: the first pass refuses, or the report is written. Assumes nothing.
+use mathlib.Core.Path.{sym, _∙_}
+use lib.ListN.{length}
 use borrow.Author.Needs.{needs}
-use Rattle.schedule.proofs.Reading.{refused-at-first}
-use Rattle.marker.specs.Types.{Before}
-use Rattle.marker.proofs.Reading.{header-read}
+use Rattle.schedule.specs.Schedule.{readSchedule}
+use Rattle.marker.proofs.Ran.{refused}
 use Rattle.marker.proofs.run.Statement.{statement}
 use Rattle.marker.proofs.run.Tie as tie
 
@@ -12,13 +11,10 @@ pub run-spec : {M : Type 1} → statement M
 run-spec =
     tie.close
     (tie.spec
-    (λ c. simp (lt-ltb _ _ (c .if1 .taken)) (refl, refl))
     (λ c κs. search needs)
     (λ c. search needs)
+    (λ c κs. sym (c .before .before .before .before .validate .ensures) ∙ c .before .before .first .given .1)
     (λ c. search needs)
-    (λ c κs. search needs)
-    (λ c. let told = c .before .enum-told .given in let read = c .before .before .before .read-record .ensures in let here = refused-at-first (c .before .before .before .before .before .before .before .args .schedule .now) Before.Nothing (told .0 .0) (told .0 .1 .0) (sym read ∙ told .1) in simp (le-ltb _ _ (c .before .before .before .before .if1 .left), c .refused-at .ensures, ← read, told .1, here) (refl, refl))
-    (λ c κs. search needs)
-    (λ c κs. let x = header-read (c .before .before .before .before .before .before .before .before .before .args .schedule .now) (c .before .before .before .found .given .0 .0) (c .before .before .before .found .given .0 .1 .0) (sym (c .before .before .before .before .before .read-record .ensures) ∙ c .before .before .before .found .given .1) in (x .0, c .before .before .before .before .before .before .if1 .left, rw (c .before .header .ensures) (x .1)))
     (λ c. search needs)
-    (λ c. simp (le-ltb _ _ (c .before .before .before .before .before .before .before .before .before .if1 .left), ← c .before .before .before .before .before .before .before .before .read-record .ensures, c .before .before .before .before .before .before .found .given .1, ← c .before .before .before .before .header .ensures) (c .before .before .run-under .ensures)))
+    (λ c. c .before .before .write-report .ensures)
+    (λ c. let args = c .before .before .before .before .before .before .args in let told = c .before .first2 .given in refused (readSchedule (args .schedule .now)) (told .0 .0) (told .0 .1 .0) (sym (c .before .before .before .validate .ensures) ∙ told .1) (length (args .report .now)) (args .report .now)))

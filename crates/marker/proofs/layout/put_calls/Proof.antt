@@ -6,7 +6,7 @@ use lib.ListN.{length}
 use borrow.Author.Needs.{needs}
 use Rattle.store.specs.Log.{places}
 use Rattle.marker.specs.Report.{countBytes}
-use Rattle.marker.proofs.Putting.{Putting, put-none, put-room, put-next, put-all}
+use Rattle.text.proofs.Putting.{Putting, put-none, put-room, put-next, put-all}
 use Rattle.marker.proofs.layout.put_calls.Statement.{statement}
 use Rattle.marker.proofs.layout.put_calls.Tie as tie
 

@@ -1,13 +1,16 @@
 -- `marker::layout::put_four` meets its contract, case by case. Assumes nothing.
-use mathlib.Core.Path.{refl}
+use mathlib.Core.Path.{_≡_, refl}
+use Prim.Native.Nat.{ℕ, suc, _+_}
 use native.Mathlib.Numerals.{add-one}
 use native.Mathlib.Omega.{arith}
 use lib.ListN.{length-set}
 use Rattle.schedule.proofs.Laws.{add-two}
-use Rattle.marker.proofs.Putting.{add-three}
 use borrow.Author.Needs.{needs}
 use Rattle.marker.proofs.layout.put_four.Statement.{statement}
 use Rattle.marker.proofs.layout.put_four.Tie as tie
+
+add-three : (i : ℕ) → i + 3 ≡ suc (suc (suc i))
+add-three i = omega arith
 
 pub put-four-spec : {M : Type 1} → statement M
 put-four-spec =

@@ -5,8 +5,8 @@ use native.Mathlib.Omega.{arith}
 use lib.ListN.{length}
 use borrow.Author.Needs.{needs}
 use Rattle.rules.specs.State.{types}
-use Rattle.marker.specs.Pass.{lowByte}
-use Rattle.marker.proofs.Putting.{Putting, put-none, put-room, put-next, put-all}
+use Rattle.marker.specs.Low.{lowByte}
+use Rattle.text.proofs.Putting.{Putting, put-none, put-room, put-next, put-all}
 use Rattle.marker.proofs.layout.put_messages.Statement.{statement}
 use Rattle.marker.proofs.layout.put_messages.Tie as tie
 

@@ -5,8 +5,8 @@ use native.Mathlib.Omega.{arith}
 use lib.ListN.{length}
 use borrow.Author.Needs.{needs}
 use Rattle.store.specs.Log.{places}
-use Rattle.marker.specs.Pass.{lowFields}
-use Rattle.marker.proofs.Putting.{Putting, put-none, put-room, put-next, put-all}
+use Rattle.marker.specs.Low.{lowFields}
+use Rattle.text.proofs.Putting.{Putting, put-none, put-room, put-next, put-all}
 use Rattle.marker.proofs.layout.put_participants.Statement.{statement}
 use Rattle.marker.proofs.layout.put_participants.Tie as tie
 

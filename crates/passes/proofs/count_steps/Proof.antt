@@ -1,4 +1,4 @@
--- `marker::count_steps` meets its contract: what is left to count, beside what was counted, is the whole. Assumes nothing.
+-- `passes::count_steps` meets its contract: what is left to count, beside what was counted, is the whole. Assumes nothing.
 use mathlib.Core.Path.{_≡_, refl, sym, ap, _∙_}
 use Prim.Native.Nat.{_+_, _-_, _≤_}
 use native.Mathlib.Omega.{arith}
@@ -6,16 +6,16 @@ use native.Mathlib.Nat.{add-zero}
 use lib.ListN.{length, drop}
 use borrow.Author.Needs.{needs}
 use Rattle.schedule.specs.Reader.{readerAnswers}
-use Rattle.marker.specs.Types.{Before, Written}
-use Rattle.marker.specs.Pass.{readingFrom, countedAfter, counted, refusedAt}
-use Rattle.marker.proofs.Reading.{First, tail-part, read-first, read-refused, none-left, count-more}
+use Rattle.passes.specs.Types.{Before, Validated}
+use Rattle.passes.specs.Pass.{readingFrom, validatedAfter, validated, refusedAt}
+use Rattle.passes.proofs.Reading.{First, tail-part, read-first, read-refused, none-left, count-more}
 use Rattle.schedule.specs.Record.{recordStep}
-use Rattle.marker.proofs.count_steps.Statement.{statement}
-use Rattle.marker.proofs.count_steps.Tie as tie
+use Rattle.passes.proofs.count_steps.Statement.{statement}
+use Rattle.passes.proofs.count_steps.Tie as tie
 
 abbrev Inv-loop : tie.InvT-loop
 Inv-loop schedule start header at₀ steps₀ at steps =
-    (at ≤ length schedule) × (steps ≤ at) × (countedAfter steps (readingFrom schedule header at) ≡ counted (readingFrom schedule header start))
+    (at ≤ length schedule) × (steps ≤ at) × (validatedAfter steps (readingFrom schedule header at) ≡ validated (readingFrom schedule header start))
 
 abbrev μ-loop : tie.MeasureT-loop
 μ-loop schedule start header at₀ steps₀ at steps = length schedule - at
@@ -54,9 +54,9 @@ count-steps-spec =
     (λ c. search needs)
     (λ c. search needs)
     (λ c κs. search needs)
-    (λ c. let at = c .before .before .before .before .before .before in let args = at .before .before .args in let told = c .before .enum-told .given in c .refused-at .ensures ∙ ap (refusedAt (at .loop .at)) (told .1) ∙ sym (ap (countedAfter (at .loop .steps)) (read-refused (args .schedule .now) (args .header) (at .loop .at) (c .before .before .before .before .before .loop-test .taken) (told .0 .0) (told .0 .1 .0) (sym (read-here (c .before .before .before)) ∙ told .1))) ∙ at .loop .inv .2)
+    (λ c. let at = c .before .before .before .before .before .before in let args = at .before .before .args in let told = c .before .enum-told .given in c .refused-at .ensures ∙ ap (refusedAt (at .loop .at)) (told .1) ∙ sym (ap (validatedAfter (at .loop .steps)) (read-refused (args .schedule .now) (args .header) (at .loop .at) (c .before .before .before .before .before .loop-test .taken) (told .0 .0) (told .0 .1 .0) (sym (read-here (c .before .before .before)) ∙ told .1))) ∙ at .loop .inv .2)
     (λ c. omega (arith, first (c .before) .within))
     (λ c. search needs)
     (λ c. omega (arith, first (c .before) .some, first (c .before) .within))
-    (λ c. let at = c .before .before .before .before .before .before in let args = at .before .before .args in let x = first (c .before) in let rest = readingFrom (args .schedule .now) (args .header) (at .loop .at + c .before .found .given .0 .1 .0) in (x .within, omega (arith, x .some), sym (count-more (at .loop .steps) (recordStep (c .before .found .given .0 .0)) rest) ∙ ap (countedAfter (at .loop .steps)) (sym (x .first)) ∙ at .loop .inv .2))
-    (λ c. let at = c .before in let args = at .before .before .args in ap Written.Done (sym (add-zero (at .loop .steps))) ∙ sym (ap (countedAfter (at .loop .steps)) (none-left (args .schedule .now) (args .header) (at .loop .at) (c .loop-test .left))) ∙ at .loop .inv .2))
+    (λ c. let at = c .before .before .before .before .before .before in let args = at .before .before .args in let x = first (c .before) in let rest = readingFrom (args .schedule .now) (args .header) (at .loop .at + c .before .found .given .0 .1 .0) in (x .within, omega (arith, x .some), sym (count-more (at .loop .steps) (recordStep (c .before .found .given .0 .0)) rest) ∙ ap (validatedAfter (at .loop .steps)) (sym (x .first)) ∙ at .loop .inv .2))
+    (λ c. let at = c .before in let args = at .before .before .args in ap (Validated.Steps (args .header)) (sym (add-zero (at .loop .steps))) ∙ sym (ap (validatedAfter (at .loop .steps)) (none-left (args .schedule .now) (args .header) (at .loop .at) (c .loop-test .left))) ∙ at .loop .inv .2))

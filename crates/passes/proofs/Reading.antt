@@ -6,27 +6,24 @@ use Prim.Native.Nat.{ℕ, suc, _+_, _-_, _≤_, _<_}
 use native.Mathlib.Omega.{arith}
 use lib.ListN.{length, take, drop, length-drop, drop-of-length-le}
 use lib.Seq.{take-all, drop-drop}
-use Rattle.number.proofs.Laws.{and-left, and-right}
-use Rattle.kind.specs.Kind.{isHeader}
 use Rattle.kind.specs.Step.{inRange}
-use Rattle.schedule.specs.Record.{recordHeader, recordStep, headerInRange}
+use Rattle.schedule.specs.Record.{recordStep}
 use Rattle.schedule.specs.Reader.{readerAnswers}
 use Rattle.schedule.specs.Schedule.{Reading, Accepted, Refused, withStep, stepsFrom}
 use Rattle.schedule.proofs.Records.{front-length, read-yielded, record-step}
 use Rattle.schedule.proofs.Reading.{first-step, refused-first, refused-at-first}
-use Rattle.marker.specs.Types.{Step, Header, Record, Before, Read, Written}
-use Rattle.marker.specs.Pass.{readingFrom, countedAfter, counted, stepsOf}
+use Rattle.passes.specs.Types.{Step, Header, Record, Before, Read, Validated}
+use Rattle.passes.specs.Pass.{readingFrom, validatedAfter, stepsOf}
 
 -- a part to the end is what is left of the whole
 pub tail-part : (s : List ℕ) (at : ℕ) → take (length s - at) (drop at s) ≡ drop at s
 tail-part s at = take-all (length s - at) (drop at s) (simp length-drop (omega arith))
 
--- a header that is read stands within the schedule and is in range
-pub header-read : (s : List ℕ) (r : Record) (l : ℕ) → readerAnswers s Before.Nothing ≡ Read.Record r l → (l ≤ length s) × (headerInRange (recordHeader r) ≡ true)
+-- a header that is read stands within the schedule
+pub header-read : (s : List ℕ) (r : Record) (l : ℕ) → readerAnswers s Before.Nothing ≡ Read.Record r l → l ≤ length s
 header-read s r l e =
     let y = read-yielded s Before.Nothing r l e in
-    let placed : isHeader (r .kind) ≡ true = and-left (isHeader (r .kind)) _ (y .follows) in
-    (omega (arith, ap length (y .front) ∙ front-length r (drop l s), y .size), rw placed at (and-right (isHeader (r .kind)) _ (y .follows)))
+    omega (arith, ap length (y .front) ∙ front-length r (drop l s), y .size)
 
 -- a record that is read: it stands within the schedule, its step is in range, and it comes first
 pub record First (s : List ℕ) (h : Header) (at : ℕ) (r : Record) (l : ℕ) : Type 0 where
@@ -65,23 +62,21 @@ unfolding stepsFrom
 none-left s h at end = ap (λ b. stepsFrom h at b 0) (drop-of-length-le s end)
 
 -- one step more is counted
-pub count-more : (m : ℕ) (s : Step) (x : Reading) → countedAfter m (withStep s x) ≡ countedAfter (m + 1) x
-count-more m s (Accepted h steps) = ap Written.Done (omega arith)
+pub count-more : (m : ℕ) (s : Step) (x : Reading) → validatedAfter m (withStep s x) ≡ validatedAfter (m + 1) x
+count-more m s (Accepted h steps) = ap (Validated.Steps h) (omega arith)
 count-more m s (Refused k p) = refl
 
-pub done-same : (a b : ℕ) → Written.Done a ≡ Written.Done b → a ≡ b
-done-same a b e = cc
+-- What a count tells
+
+pub count-same : (h g : Header) (a b : ℕ) → Validated.Steps h a ≡ Validated.Steps g b → a ≡ b
+count-same h g a b e = cc
 
 -- where a first step is counted, the others are steps, and it is below the count
-pub one-more : (i count : ℕ) (s : Step) (x : Reading) → countedAfter i (withStep s x) ≡ Written.Done count → i < count
-one-more i count s (Accepted h steps) c = omega (arith, done-same (i + suc (length steps)) count c)
-one-more i count s (Refused k p) c = let z : _≡_ {A = ℕ} 0 1 = cc in absurd (omega arith)
+pub one-more : (i count : ℕ) (g : Header) (s : Step) (x : Reading) → validatedAfter i (withStep s x) ≡ Validated.Steps g count → i < count
+one-more i count g s (Accepted h steps) c = omega (arith, count-same h g (i + suc (length steps)) count c)
+one-more i count g s (Refused k p) c = let z : _≡_ {A = ℕ} 0 1 = cc in absurd (omega arith)
 
-pub step-first : (i count : ℕ) (s : Step) (x : Reading) → countedAfter i (withStep s x) ≡ Written.Done count → stepsOf (withStep s x) ≡ s ∷ stepsOf x
-step-first i count s (Accepted h steps) c = refl
-step-first i count s (Refused k p) c = let z : _≡_ {A = ℕ} 0 1 = cc in absurd (omega arith)
-
--- what is counted was accepted
-pub steps-counted : (x : Reading) (count : ℕ) → counted x ≡ Written.Done count → length (stepsOf x) ≡ count
-steps-counted (Accepted h steps) count c = omega (arith, done-same (0 + length steps) count c)
-steps-counted (Refused k p) count c = let z : _≡_ {A = ℕ} 0 1 = cc in absurd (omega arith)
+pub step-first : (i count : ℕ) (g : Header) (s : Step) (x : Reading) → validatedAfter i (withStep s x) ≡ Validated.Steps g count
+    → stepsOf (withStep s x) ≡ s ∷ stepsOf x
+step-first i count g s (Accepted h steps) c = refl
+step-first i count g s (Refused k p) c = let z : _≡_ {A = ℕ} 0 1 = cc in absurd (omega arith)

@@ -1,21 +1,23 @@
--- `marker::run_steps` meets its contract: what holds while the steps run stands in Going. Assumes nothing.
+-- `passes::run_steps` meets its contract: what holds while the steps run stands in Going. Assumes nothing.
 use mathlib.Core.Path.{_≡_, sym, ap, _∙_}
 use Prim.Native.Nat.{_-_}
 use native.Mathlib.Omega.{arith}
 use lib.ListN.{length, drop}
 use borrow.Author.Needs.{needs}
 use Rattle.schedule.specs.Reader.{readerAnswers}
-use Rattle.marker.specs.Types.{Before, Read}
-use Rattle.marker.proofs.Reading.{First, tail-part, read-first}
-use Rattle.marker.proofs.Going.{Going, set-out, small, countable, ranged, has-room, go-on, no-refusal, arrived}
-use Rattle.marker.proofs.run_steps.Statement.{statement}
-use Rattle.marker.proofs.run_steps.Tie as tie
+use Rattle.passes.specs.Types.{Before, Read}
+use Rattle.passes.specs.Pass.{validated}
+use Rattle.passes.proofs.Reading.{First, tail-part, read-first}
+use Rattle.passes.proofs.Passed.{passed}
+use Rattle.passes.proofs.Going.{Going, set-out, small, countable, ranged, has-room, go-on, no-refusal, arrived}
+use Rattle.passes.proofs.run_steps.Statement.{statement}
+use Rattle.passes.proofs.run_steps.Tie as tie
 
 abbrev Inv-loop : tie.InvT-loop
-Inv-loop schedule start header count report₀ at₀ i₀ release₀ report at i release = Going schedule header start count report₀ report at i release
+Inv-loop schedule header count report₀ at₀ i₀ release₀ report at i release = Going schedule header 3 count report₀ report at i release
 
 abbrev μ-loop : tie.MeasureT-loop
-μ-loop schedule start header count report₀ at₀ i₀ release₀ report at i release = length schedule - at
+μ-loop schedule header count report₀ at₀ i₀ release₀ report at i release = length schedule - at
 
 -- what the reader was handed is what is left of the schedule
 read-here : (c : tie.After-read-record Inv-loop μ-loop) →
@@ -49,7 +51,7 @@ run-steps-spec =
     Inv-loop
     μ-loop
     (λ c κs. search needs)
-    (λ c. let start = c .before .before .before in let args = start .args in let p = start .pre .0 in rw (c .fresh .ensures) (set-out (args .schedule .now) (args .header) (args .start) (args .count) (args .report .now) (p .0) (p .1) (p .2) (p .3) (start .pre .1)))
+    (λ c. let start = c .before .before .before in let args = start .args in let p = passed (args .schedule .now) (args .header) (args .count) (start .pre .0) in rw (c .fresh .ensures) (set-out (args .schedule .now) (args .header) 3 (args .count) (args .report .now) (p .three) (p .short) (start .pre .1) (p .header) (ap validated (p .after-three) ∙ start .pre .0)))
     (λ c. search needs)
     (λ c. search needs)
     (λ c. search needs)
@@ -67,4 +69,4 @@ run-steps-spec =
     (λ c. omega (arith, first (c .before .before .before .before .before) .some, first (c .before .before .before .before .before) .within))
     (λ c. let at = c .before .before .before .before .before .before .before .before .before .before in let x = c .before .before .before .before .before in rw (c .before .report-byte .ensures, c .before .before .step2 .ensures, c .before .before .before .step .ensures) (go-on (at .loop .inv) (c .before .before .before .before .before .before .before .before .before .loop-test .taken) (x .r .given .0 .0) (x .r .given .0 .1 .0) (yielded x)))
     (λ c. c .before .loop .inv .same)
-    (λ c. arrived (c .before .loop .inv) (c .loop-test .left)))
+    (λ c. let start = c .before .before .before .before .before in let args = start .args in rw (passed (args .schedule .now) (args .header) (args .count) (start .pre .0) .after-three) at (arrived (c .before .loop .inv) (c .loop-test .left))))

@@ -20,10 +20,9 @@ use Rattle.rules.proofs.Agreement.{replicate-all}
 use Rattle.rules.proofs.Causes.{cause}
 use Rattle.rules.proofs.Counts.{one-call-more}
 use Rattle.rules.proofs.Room.{caused-room}
-use Rattle.marker.specs.Types.{Step, Header, Record, Before, Read, Written, Release}
-use Rattle.marker.specs.Report.{freshOf, stepBytes}
-use Rattle.marker.specs.Pass.{readingFrom, countedAfter, counted, stepsOf}
-use Rattle.marker.proofs.Reading.{First, read-first, read-refused, none-left, count-more, one-more, step-first}
+use Rattle.passes.specs.Types.{Step, Header, Record, Before, Read, Validated, Release}
+use Rattle.passes.specs.Pass.{readingFrom, validatedAfter, validated, stepsOf, freshOf, stepBytes}
+use Rattle.passes.proofs.Reading.{First, read-first, read-refused, none-left, count-more, one-more, step-first}
 
 -- before step i, whose record begins at `at`
 pub record Going (s : List ℕ) (h : Header) (start count : ℕ) (out₀ out : List ℕ) (at i : ℕ) (r : Release) : Type 0 where
@@ -35,12 +34,12 @@ pub record Going (s : List ℕ) (h : Header) (start count : ℕ) (out₀ out : L
   pub header : headerInRange h ≡ true
   pub same-n : r .n ≡ h .n
   pub calls : (p : ℕ) → getD (r .calls) p 0 ≤ i
-  pub left : countedAfter i (readingFrom s h at) ≡ Written.Done count
+  pub left : validatedAfter i (readingFrom s h at) ≡ Validated.Steps h count
   pub ends : after r (stepsOf (readingFrom s h at)) ≡ after (freshOf h) (stepsOf (readingFrom s h start))
   pub report : sets out i (stepBytes r (stepsOf (readingFrom s h at))) ≡ sets out₀ 0 (stepBytes (freshOf h) (stepsOf (readingFrom s h start)))
 
 pub set-out : (s : List ℕ) (h : Header) (start count : ℕ) (out : List ℕ) → start ≤ length s → length s ≤ longest → count ≤ length out
-    → headerInRange h ≡ true → counted (readingFrom s h start) ≡ Written.Done count → Going s h start count out out start 0 (freshOf h)
+    → headerInRange h ≡ true → validated (readingFrom s h start) ≡ Validated.Steps h count → Going s h start count out out start 0 (freshOf h)
 set-out s h start count out within short room header left =
     record {
       within = within;
@@ -74,14 +73,14 @@ module _ {s : List ℕ} {h : Header} {start count : ℕ} {out₀ out : List ℕ}
     pub fits : at + l ≤ length s
     fits = first .within
 
-    here : countedAfter i (withStep (recordStep x) (readingFrom s h (at + l))) ≡ Written.Done count
-    here = ap (countedAfter i) (sym (first .first)) ∙ g .left
+    here : validatedAfter i (withStep (recordStep x) (readingFrom s h (at + l))) ≡ Validated.Steps h count
+    here = ap (validatedAfter i) (sym (first .first)) ∙ g .left
 
     pub has-room : i < length out
-    has-room = omega (arith, one-more i count (recordStep x) (readingFrom s h (at + l)) here, g .room, g .same)
+    has-room = omega (arith, one-more i count h (recordStep x) (readingFrom s h (at + l)) here, g .room, g .same)
 
     steps : stepsOf (readingFrom s h at) ≡ recordStep x ∷ stepsOf (readingFrom s h (at + l))
-    steps = ap stepsOf (first .first) ∙ step-first i count (recordStep x) (readingFrom s h (at + l)) here
+    steps = ap stepsOf (first .first) ∙ step-first i count h (recordStep x) (readingFrom s h (at + l)) here
 
     -- one turn
     pub go-on : Going s h start count out₀ (set out i (outcomeNumber (step r (recordStep x) .outcome))) (at + l) (i + 1) (step r (recordStep x) .next)
@@ -109,7 +108,7 @@ module _ {s : List ℕ} {h : Header} {start count : ℕ} {out₀ out : List ℕ}
   -- no refusal comes
   pub no-refusal : (k p : ℕ) → readerAnswers (drop at s) (Before.Header h) ≡ Read.Refused k p → ⊥
   no-refusal k p e =
-      let z : _≡_ {A = ℕ} 0 1 = cc (sym (ap (countedAfter i) (read-refused s h at some k p e)) ∙ g .left) in
+      let z : _≡_ {A = ℕ} 0 1 = cc (sym (ap (validatedAfter i) (read-refused s h at some k p e)) ∙ g .left) in
       omega arith
 
 -- at the end
