@@ -1,0 +1,72 @@
+-- The listing of a schedule: the text that program `mark` prints. Assumes nothing.
+use mathlib.Core.Bool.{cond}
+use mathlib.Core.List.{List, [], _∷_, _++_}
+use Prim.Native.Nat.{ℕ, suc}
+use lib.Dec.{ltb}
+use lib.ListN.{length, take}
+use lib.Seq.{sets}
+use Rattle.text.specs.Text.{ascii, decimal}
+use Rattle.text.specs.Put.{each}
+use Rattle.schedule.specs.Schedule.{Reading, Accepted, Refused, readSchedule}
+use Rattle.schedule.specs.Writer.{roomAnswer}
+use Rattle.rules.specs.Run.{outcomes, after}
+use Rattle.passes.specs.Pass.{freshOf}
+use Rattle.listing.specs.Types.{LogRecord, LogPair, Step, Header, Written, Release, Outcome}
+
+-- A line a step: step number from 1, then idle, moved, commit or abort
+
+abbrev pub outcomeText : Outcome → List ℕ
+outcomeText Outcome.Idle = ascii " idle\n"
+outcomeText Outcome.Moved = ascii " moved\n"
+outcomeText Outcome.Commit = ascii " commit\n"
+outcomeText Outcome.Abort = ascii " abort\n"
+
+unfoldable pub stepLines : ℕ → List Outcome → List ℕ
+stepLines k [] = []
+stepLines k (o ∷ os) = decimal k ++ (outcomeText o ++ stepLines (suc k) os)
+
+-- Then `calls` with the counts of parties 0 to n
+
+abbrev pub countText : ℕ → List ℕ
+countText k = ascii " " ++ decimal k
+
+abbrev pub callsLine : Release → List ℕ
+callsLine r = ascii "calls" ++ (each countText (take (suc (r .n)) (r .calls)) ++ ascii "\n")
+
+-- then `logs` with first and last per participant as `-`, `y`, `a`, `c`
+
+abbrev pub recordText : LogRecord → List ℕ
+recordText LogRecord.None = ascii "-"
+recordText LogRecord.Yes = ascii "y"
+recordText LogRecord.Abort = ascii "a"
+recordText LogRecord.Commit = ascii "c"
+
+abbrev pub logText : LogPair → List ℕ
+logText l = ascii " " ++ (recordText (l .first) ++ recordText (l .last))
+
+abbrev pub logsLine : Release → List ℕ
+logsLine r = ascii "logs" ++ (each logText (take (r .n) (r .store .logs)) ++ ascii "\n")
+
+abbrev pub endLines : Release → List ℕ
+endLines r = callsLine r ++ logsLine r
+
+-- A refusal prints `refused K at B`
+abbrev pub refusalLine : ℕ → ℕ → List ℕ
+refusalLine k place = ascii "refused " ++ (decimal k ++ (ascii " at " ++ (decimal place ++ ascii "\n")))
+
+abbrev pub readingText : Reading → List ℕ
+readingText (Accepted h steps) = stepLines 1 (outcomes (freshOf h) steps) ++ endLines (after (freshOf h) steps)
+readingText (Refused k place) = refusalLine k place
+
+-- the listing of a schedule's bytes
+abbrev pub listing : List ℕ → List ℕ
+listing schedule = readingText (readSchedule schedule)
+
+-- The listing's entry: the length written, or 6 with the length needed, and then the text is as it was. What each case hands over is
+-- `writtenHands`
+
+abbrev pub listAnswers : ℕ → List ℕ → Written
+listAnswers room schedule = roomAnswer room (length (listing schedule))
+
+abbrev pub listLeaves : List ℕ → List ℕ → List ℕ
+listLeaves text schedule = cond (ltb (length text) (length (listing schedule))) text (sets text 0 (listing schedule))
