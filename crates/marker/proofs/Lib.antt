@@ -1,2 +1,5 @@
 pub mod TailBytes
 pub mod Ran
+pub mod Left
+pub mod Counts
+pub mod Demand

@@ -123,16 +123,19 @@ each-length f m h [] = sym (zero-mul m)
 each-length f m h (x ∷ xs) =
     length-append (f x) (each f xs) ∙ omega (arith, h x, each-length f m h xs, suc-mul (length xs) m)
 
+pub participants-length : (r : Release) → length (each fieldBytes (tabulate places (fieldsOf r))) ≡ 32
+participants-length r =
+    each-length fieldBytes 4 (λ x. refl) (tabulate places (fieldsOf r)) ∙ ap (λ l. l * 4) (length-tabulate places (fieldsOf r))
+
 module _ (r : Release) (five : length (r .messages) ≡ types) (nine : length (r .calls) ≡ suc places) where
   whole-length : length (tailBytes (tailOf r)) ≡ tailLength
   whole-length =
       let ps : List ParticipantFields = tabulate places (fieldsOf r) in
-      let p : length (each fieldBytes ps) ≡ 32 = each-length fieldBytes 4 (λ x. refl) ps ∙ ap (λ l. l * 4) (length-tabulate places (fieldsOf r)) in
       let c : length (each countBytes (r .calls)) ≡ 18 = each-length countBytes 2 (λ x. refl) (r .calls) ∙ ap (λ l. l * 2) nine in
       omega (
         arith,
         five,
-        p,
+        participants-length r,
         c,
         length-append (r .messages) (each fieldBytes ps ++ each countBytes (r .calls)),
         length-append (each fieldBytes ps) (each countBytes (r .calls)),

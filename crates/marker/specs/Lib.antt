@@ -2,3 +2,4 @@ pub mod Types
 pub mod Report
 pub mod Run
 pub mod Low
+pub mod Demand

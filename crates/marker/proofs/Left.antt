@@ -1,0 +1,86 @@
+-- What a run that is accepted leaves in the report: its steps' bytes, then its tail, then what was there. Assumes nothing.
+use mathlib.Core.Path.{_≡_, refl, sym, ap, _∙_}
+use mathlib.Core.Bool.{Bool, true, false, cond}
+use mathlib.Core.List.{List, _++_, append-assoc}
+use Prim.Native.Nat.{ℕ, _+_, _-_, _≤_}
+use native.Mathlib.Omega.{arith}
+use lib.Dec.{ltb}
+use lib.ListN.{length, take, drop, length-append}
+use lib.Seq.{sets, sets-eq, take-at, drop-at}
+use borrow.Author.Tests.{ltb-false, le-ltb}
+use Rattle.number.specs.Refusal.{tooShort}
+use Rattle.schedule.specs.Schedule.{Reading, Accepted, Refused, readSchedule}
+use Rattle.rules.specs.Run.{after}
+use Rattle.tail.specs.Tail.{tailOf}
+use Rattle.passes.specs.Pass.{freshOf, stepBytes}
+use Rattle.passes.proofs.Passed.{bytes-length}
+use Rattle.marker.specs.Types.{Step, Header, Written}
+use Rattle.marker.specs.Report.{tailBytes, tailLength, reportBytes}
+use Rattle.marker.specs.Run.{readingAnswer, readingLeaves, runAnswers, runLeaves}
+use Rattle.marker.specs.Demand.{stepsLeft, tailLeft}
+use Rattle.marker.proofs.TailBytes.{tail-length}
+
+done-same : (a b : ℕ) → Written.Done a ≡ Written.Done b → a ≡ b
+done-same a b e = cc
+
+pub record Ran (report schedule : List ℕ) (written : ℕ) : Type 0 where
+  pub header : Header
+  pub steps : List Step
+  pub accepted : readSchedule schedule ≡ Accepted header steps
+  pub length-written : written ≡ length steps + tailLength
+  pub room : length steps + tailLength ≤ length report
+
+pub ran : (report schedule : List ℕ) (written : ℕ) → runAnswers (length report) schedule ≡ Written.Done written → Ran report schedule written
+ran report schedule written d = go (readSchedule schedule) refl d
+  where
+    by-room : (h : Header) (steps : List Step) → readSchedule schedule ≡ Accepted h steps → (b : Bool) → ltb (length report) (length steps + tailLength) ≡ b
+        → cond b (Written.Refused tooShort (length steps + tailLength)) (Written.Done (length steps + tailLength)) ≡ Written.Done written
+        → Ran report schedule written
+    by-room h steps e true t d = let z : _≡_ {A = ℕ} 0 1 = cc in absurd (omega arith)
+    by-room h steps e false t d =
+        record {
+          header = h;
+          steps = steps;
+          accepted = e;
+          length-written = sym (done-same (length steps + tailLength) written d);
+          room = ltb-false (length report) (length steps + tailLength) t;
+        }
+
+    go : (x : Reading) → readSchedule schedule ≡ x → readingAnswer (length report) x ≡ Written.Done written → Ran report schedule written
+    go (Accepted h steps) e d = by-room h steps e (ltb (length report) (length steps + tailLength)) refl d
+    go (Refused k p) e d = let z : _≡_ {A = ℕ} 0 1 = cc in absurd (omega arith)
+
+module _ (report schedule : List ℕ) (h : Header) (steps : List Step) (e : readSchedule schedule ≡ Accepted h steps) (room : length steps + tailLength ≤ length report) where
+  abbrev bytes : List ℕ
+  bytes = stepBytes (freshOf h) steps
+
+  abbrev tail : List ℕ
+  tail = tailBytes (tailOf (after (freshOf h) steps))
+
+  pub answers : runAnswers (length report) schedule ≡ Written.Done (length steps + tailLength)
+  answers = simp (e, le-ltb (length report) (length steps + tailLength) room)
+
+  abbrev rest : List ℕ
+  rest = drop (0 + length (bytes ++ tail)) report
+
+  report-length : length (bytes ++ tail) ≡ length steps + tailLength
+  report-length = omega (arith, length-append bytes tail, bytes-length (freshOf h) steps, tail-length h steps)
+
+  leaves : runLeaves report schedule ≡ bytes ++ (tail ++ rest)
+  leaves =
+      ap (readingLeaves report) e
+      ∙ ap (λ b. cond b report (sets report 0 (reportBytes h steps))) (le-ltb (length report) (length steps + tailLength) room)
+      ∙ sets-eq (bytes ++ tail) report 0 (omega (arith, report-length))
+      ∙ append-assoc bytes tail rest
+
+  less : length bytes ≡ length steps + tailLength - tailLength
+  less = omega (arith, bytes-length (freshOf h) steps)
+
+  pub steps-left : stepsLeft report schedule (length steps + tailLength) ≡ stepBytes (freshOf h) steps
+  steps-left = ap (take (length steps + tailLength - tailLength)) leaves ∙ take-at bytes (tail ++ rest) (length steps + tailLength - tailLength) less
+
+  pub tail-left : tailLeft report schedule (length steps + tailLength) ≡ tailBytes (tailOf (after (freshOf h) steps))
+  tail-left =
+      ap (λ l. take tailLength (drop (length steps + tailLength - tailLength) l)) leaves
+      ∙ ap (take tailLength) (drop-at bytes (tail ++ rest) (length steps + tailLength - tailLength) less)
+      ∙ take-at tail rest tailLength (tail-length h steps)
