@@ -3,3 +3,4 @@ pub mod Ran
 pub mod Left
 pub mod Counts
 pub mod Demand
+pub mod Cases

@@ -3,3 +3,4 @@ pub mod Report
 pub mod Run
 pub mod Low
 pub mod Demand
+pub mod Cases

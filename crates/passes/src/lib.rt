@@ -57,10 +57,10 @@ fn count_steps(schedule: &[u8], start: usize, header: Header) -> Validated
     let mut steps: usize = 0;
     while at < schedule.len() {
         let found = read_record(&schedule[at..], Before::Header(header));
-        let Read::Record(_, length) = found else {
+        let Read::Record(_, size) = found else {
             return refused_at(at, found);
         };
-        at = at + length;
+        at = at + size;
         steps = steps + 1;
     }
     Validated::Steps(header, steps)
