@@ -1,7 +1,7 @@
 -- The counts in a tail are the due store calls that the rules count over the steps. Assumes nothing.
-use mathlib.Core.Path.{_≡_, refl, sym, ap, ap₂, _∙_}
+use mathlib.Core.Path.{_≡_, refl, ap, _∙_}
 use mathlib.Core.List.{List, [], _∷_, _++_}
-use Prim.Native.Nat.{ℕ, zero, suc, _+_, _*_, _/_, _%_, _≤_, _<_}
+use Prim.Native.Nat.{ℕ, zero, suc, _+_, _*_, _/_, _%_, _<_}
 use native.Mathlib.Omega.{arith}
 use native.Mathlib.Nat.{zero-add}
 use lib.ListN.{length, getD}
@@ -13,9 +13,9 @@ use Rattle.rules.proofs.Agreement.{replicate-all}
 use Rattle.rules.proofs.Counts.{calls-counted}
 use Rattle.tail.specs.Tail.{tabulate, fieldsOf, tailOf}
 use Rattle.passes.specs.Pass.{freshOf}
-use Rattle.marker.specs.Types.{Step, Header, Release, ParticipantFields}
+use Rattle.marker.specs.Types.{Step, Header, Release}
 use Rattle.marker.specs.Report.{fieldBytes, countBytes, tailBytes}
-use Rattle.marker.specs.Demand.{countAt, CountsHold}
+use Rattle.marker.specs.Demand.{CountsHold}
 use Rattle.marker.proofs.TailBytes.{five-masks, nine-counts, participants-length}
 
 -- two bytes a count

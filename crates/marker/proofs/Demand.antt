@@ -1,17 +1,14 @@
 -- Demand 3 about the marker's own bytes, from demand 3 of the rules: the statements of specs/Demand.antt. Assumes nothing.
-use mathlib.Core.Path.{_≡_, refl, sym, ap, subst, _∙_}
-use mathlib.Core.Bool.{true}
+use mathlib.Core.Path.{_≡_, refl, sym, subst, _∙_}
 use mathlib.Core.List.{List, [], _∷_, _++_, List·Memᴰ, List·Memᴰ·head, List·Memᴰ·tail}
-use Prim.Native.Nat.{ℕ, zero, suc, _+_, _≤_, _<_}
+use Prim.Native.Nat.{ℕ, zero, suc, _+_, _<_}
 use native.Mathlib.Omega.{arith}
 use lib.ListN.{length, getD, take, drop}
 use lib.Seq.{split-at}
 use Rattle.store.specs.Log.{places}
-use Rattle.schedule.specs.Record.{headerInRange}
-use Rattle.schedule.specs.Schedule.{Accepted, readSchedule, scheduleBytes}
+use Rattle.schedule.specs.Schedule.{scheduleBytes}
 use Rattle.schedule.proofs.Laws.{header-size}
 use Rattle.schedule.proofs.RoundTrip.{steps-kept, read-in-range}
-use Rattle.kind.specs.Step.{AllInRange}
 use Rattle.rules.specs.State.{firstOf}
 use Rattle.rules.specs.Report.{outcomeNumber}
 use Rattle.rules.specs.Step.{step}
@@ -21,9 +18,8 @@ use Rattle.rules.proofs.Demand.{demand-holds}
 use Rattle.passes.specs.Pass.{freshOf, stepBytes}
 use Rattle.passes.proofs.Passed.{bytes-length}
 use Rattle.marker.specs.Types.{Step, Header, Release, Outcome}
-use Rattle.marker.specs.Report.{tailLength}
-use Rattle.marker.specs.Demand.{Says, BytesHold, stepsLeft, tailLeft, CountsHold, Marked, MarkedHolds, ListMarked}
-use Rattle.marker.proofs.Left.{Ran, ran, answers, steps-left, tail-left}
+use Rattle.marker.specs.Demand.{Says, BytesHold, CountsHold, Marked, MarkedHolds, ListMarked}
+use Rattle.marker.proofs.Left.{ran, answers, steps-left, tail-left}
 use Rattle.marker.proofs.Counts.{counts-hold}
 
 -- a byte is the number of its step's outcome, and says what the outcome is

@@ -84,3 +84,8 @@ module _ (report schedule : List ℕ) (h : Header) (steps : List Step) (e : read
       ap (λ l. take tailLength (drop (length steps + tailLength - tailLength) l)) leaves
       ∙ ap (take tailLength) (drop-at bytes (tail ++ rest) (length steps + tailLength - tailLength) less)
       ∙ take-at tail rest tailLength (tail-length h steps)
+
+  pub report-left : take (length steps + tailLength) (runLeaves report schedule) ≡ reportBytes h steps
+  report-left =
+      ap (take (length steps + tailLength)) (leaves ∙ sym (append-assoc bytes tail rest))
+      ∙ take-at (bytes ++ tail) rest (length steps + tailLength) report-length

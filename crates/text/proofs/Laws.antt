@@ -12,7 +12,7 @@ use lib.ListN.{length, set, getD, drop, length-append, drop-of-length-le}
 use lib.Seq.{sets, set-comm, drop-cons}
 use borrow.Author.Tests.{ltb-true, ltb-false, lt-ltb, le-ltb}
 use Rattle.number.proofs.Lists.{sets-append}
-use Rattle.text.specs.Text.{digit, digitsUpTo, decimal, hexadecimal}
+use Rattle.text.specs.Text.{ascii, digit, digitsUpTo, decimal, hexadecimal, refusalLine}
 
 -- Decimals
 
@@ -68,6 +68,14 @@ hexadecimal-length (b ∷ bytes) = let l = hexadecimal-length bytes in omega ari
 pub hexadecimal-end : (bytes : List ℕ) (i : ℕ) → length bytes ≤ i → hexadecimal (drop i bytes) ≡ []
 unfolding hexadecimal
 hexadecimal-end bytes i h = ap hexadecimal (drop-of-length-le bytes h)
+
+pub refusal-length : (k place : ℕ) → length (refusalLine k place) ≡ 13 + (length (decimal k) + length (decimal place))
+refusal-length k place =
+    omega (
+      arith,
+      length-append (decimal k) (ascii " at " ++ (decimal place ++ ascii "\n")),
+      length-append (decimal place) (ascii "\n"),
+    )
 
 -- Stores
 

@@ -27,3 +27,7 @@ decimal n = digitsUpTo (suc n) n
 unfoldable pub hexadecimal : List ℕ → List ℕ
 hexadecimal [] = []
 hexadecimal (b ∷ bytes) = digit (b / 16) ∷ digit (b % 16) ∷ hexadecimal bytes
+
+-- A refusal prints `refused K at B`
+abbrev pub refusalLine : ℕ → ℕ → List ℕ
+refusalLine k place = ascii "refused " ++ (decimal k ++ (ascii " at " ++ (decimal place ++ ascii "\n")))

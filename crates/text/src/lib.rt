@@ -3,7 +3,7 @@ ghost use mathlib.Core.Path.{_≡_};
 ghost use Prim.Native.Nat.{_+_, _≤_, _<_};
 ghost use lib.ListN.{length};
 ghost use Rattle.text.specs.Put.{Put};
-ghost use Rattle.text.specs.Text.{digit, decimal, hexadecimal};
+ghost use Rattle.text.specs.Text.{digit, decimal, hexadecimal, refusalLine};
 
 // These bytes as they are.
 pub fn put(text: &mut [u8], place: usize, bytes: &[u8]) -> usize
@@ -71,4 +71,16 @@ pub fn put_hexadecimal(text: &mut [u8], place: usize, bytes: &[u8]) -> usize
         i = i + 1;
     }
     at
+}
+
+// The line of a refusal, by its number and its place or length.
+pub fn put_refusal(text: &mut [u8], place: usize, k: u32, at: usize) -> usize
+    requires { ⌜ place + length (refusalLine k at) ≤ length (now text) ⌝ }
+    ensures { λ end. ⌜ Put (now (text .entry)) place (refusalLine k at) end (now (text .exit)) ⌝ }
+{
+    let number = put(text, place, b"refused ");
+    let middle = put_decimal(text, number, k as usize);
+    let value = put(text, middle, b" at ");
+    let end = put_decimal(text, value, at);
+    put(text, end, b"\n")
 }
