@@ -47,7 +47,7 @@ pub fn first_frame(bytes: &[u8]) -> Frame
 // The line of a schedule, at a place of the text. The report is room to work in.
 pub fn put_line(schedule: &[u8], report: &mut [u8], text: &mut [u8], place: usize) -> usize
     requires { ⌜ (longestReport ≤ length (now report)) × (place + longestLine ≤ length (now text)) ⌝ }
-    ensures { λ end. ⌜ Put (now (text .entry)) place (lineOf (now (schedule .entry))) end (now (text .exit)) ⌝ }
+    ensures { λ end. ⌜ Put (now (text .entry)) place (lineOf (now (schedule .entry))) end (now (text .exit)) × (end ≤ length (now (text .entry))) ⌝ }
 {
     let ran = run(schedule, report);
     match ran {

@@ -1,17 +1,17 @@
 -- The listing of a schedule: the text that program `mark` prints. Assumes nothing.
 use mathlib.Core.Bool.{cond}
 use mathlib.Core.List.{List, [], _∷_, _++_}
-use Prim.Native.Nat.{ℕ, suc}
+use Prim.Native.Nat.{ℕ, suc, _≤_}
 use lib.Dec.{ltb}
 use lib.ListN.{length, take}
 use lib.Seq.{sets}
-use Rattle.text.specs.Text.{ascii, decimal}
+use Rattle.text.specs.Text.{ascii, decimal, refusalLine}
 use Rattle.text.specs.Put.{each}
 use Rattle.schedule.specs.Schedule.{Reading, Accepted, Refused, readSchedule}
 use Rattle.schedule.specs.Writer.{roomAnswer}
 use Rattle.rules.specs.Run.{outcomes, after}
 use Rattle.passes.specs.Pass.{freshOf}
-use Rattle.listing.specs.Types.{LogRecord, LogPair, Step, Header, Written, Release, Outcome}
+use Rattle.listing.specs.Types.{LogRecord, LogPair, Written, Release, Outcome}
 
 -- A line a step: step number from 1, then idle, moved, commit or abort
 
@@ -50,10 +50,7 @@ logsLine r = ascii "logs" ++ (each logText (take (r .n) (r .store .logs)) ++ asc
 abbrev pub endLines : Release → List ℕ
 endLines r = callsLine r ++ logsLine r
 
--- A refusal prints `refused K at B`
-abbrev pub refusalLine : ℕ → ℕ → List ℕ
-refusalLine k place = ascii "refused " ++ (decimal k ++ (ascii " at " ++ (decimal place ++ ascii "\n")))
-
+-- a refusal prints its line alone
 abbrev pub readingText : Reading → List ℕ
 readingText (Accepted h steps) = stepLines 1 (outcomes (freshOf h) steps) ++ endLines (after (freshOf h) steps)
 readingText (Refused k place) = refusalLine k place
@@ -61,6 +58,14 @@ readingText (Refused k place) = refusalLine k place
 -- the listing of a schedule's bytes
 abbrev pub listing : List ℕ → List ℕ
 listing schedule = readingText (readSchedule schedule)
+
+-- a text of this length has room for every listing: 32,765 lines of at most 13 bytes, then at most 60 and 29. Proved in proofs/Fits.antt
+
+abbrev pub longestText : ℕ
+longestText = 426034
+
+abbrev pub ListingFits : Type 0
+ListingFits = (schedule : List ℕ) → length (listing schedule) ≤ longestText
 
 -- The listing's entry: the length written, or 6 with the length needed, and then the text is as it was. What each case hands over is
 -- `writtenHands`

@@ -14,18 +14,19 @@ use schedule::Header;
 use schedule::LONGEST;
 use schedule::writer::Written;
 use text::put;
-use text::put_decimal;
+use text::put_refusal;
 ghost use mathlib.Core.Path.{_≡_};
 ghost use mathlib.Core.List.{_++_};
 ghost use Prim.Native.Nat.{_+_, _≤_};
 ghost use lib.ListN.{length};
 ghost use Rattle.text.specs.Put.{Put};
+ghost use Rattle.text.specs.Text.{refusalLine};
 ghost use Rattle.store.specs.Log.{places};
 ghost use Rattle.schedule.specs.Record.{longest};
 ghost use Rattle.schedule.specs.Schedule.{readSchedule};
 ghost use Rattle.passes.specs.Pass.{validated};
 ghost use Rattle.passes.specs.declared.Validated.{Validated};
-ghost use Rattle.listing.specs.Listing.{endLines, refusalLine, listAnswers, listLeaves};
+ghost use Rattle.listing.specs.Listing.{endLines, listAnswers, listLeaves};
 ghost use Rattle.listing.specs.Bytes.{byteLines, textAnswer, textLeft};
 
 // Room for the last two lines, and for a refusal.
@@ -44,18 +45,6 @@ fn put_end(text: &mut [u8], r: Release) -> usize
     let next = put(text, counted, b"\nlogs");
     let logged = put_logs(text, next, r.n, logs);
     put(text, logged, b"\n")
-}
-
-// `refused K at B`.
-pub fn put_refusal(text: &mut [u8], place: usize, k: u32, at: usize) -> usize
-    requires { ⌜ place + length (refusalLine k at) ≤ length (now text) ⌝ }
-    ensures { λ end. ⌜ Put (now (text .entry)) place (refusalLine k at) end (now (text .exit)) ⌝ }
-{
-    let number = put(text, place, b"refused ");
-    let between = put_decimal(text, number, k as usize);
-    let value = put(text, between, b" at ");
-    let end = put_decimal(text, value, at);
-    put(text, end, b"\n")
 }
 
 // A line for each byte of a report's steps, then the last lines, where the text has room for all of it.

@@ -7,14 +7,12 @@ use text::decimal_length;
 use text::put;
 use text::put_decimal;
 ghost use mathlib.Core.Path.{_≡_};
-ghost use mathlib.Core.List.{_++_};
-ghost use Prim.Native.Nat.{suc, _+_, _*_, _≤_, _<_};
+ghost use Prim.Native.Nat.{suc, _+_, _≤_};
 ghost use lib.ListN.{length, take};
-ghost use Rattle.text.specs.Text.{ascii};
 ghost use Rattle.text.specs.Put.{Put, each};
 ghost use Rattle.store.specs.Log.{places};
 ghost use Rattle.schedule.specs.Record.{longest};
-ghost use Rattle.listing.specs.Listing.{countText, recordText, logText, refusalLine};
+ghost use Rattle.listing.specs.Listing.{countText, recordText, logText};
 ghost use Rattle.listing.specs.Bytes.{byteText, byteLines};
 
 // The length of what follows a step's number.

@@ -5,10 +5,10 @@ use mathlib.Core.List.{List, [], _∷_, _++_, append-assoc}
 use Prim.Native.Nat.{ℕ, zero, suc, _+_, _-_, _≤_, _<_}
 use native.Mathlib.Omega.{arith}
 use native.Mathlib.Nat.{add-zero}
-use lib.Dec.{eqb, leb, ltb}
+use lib.Dec.{eqb, leb, ltb, lit≤}
 use lib.ListN.{length, getD, take, drop}
 use borrow.Author.Tests.{ltb-true, ltb-false, le-ltb}
-use Rattle.number.specs.Refusal.{emptyOrTooLong}
+use Rattle.number.specs.Refusal.{emptyOrTooLong, outOfRange}
 use Rattle.number.proofs.Laws.{and-left, and-right}
 use Rattle.kind.specs.Kind.{kindOf, isKind, bodyLength, isHeader}
 use Rattle.kind.specs.Step.{AllInRange}
@@ -77,11 +77,11 @@ all-read h place (s ∷ ss) = ap (withStep s) (all-read h place ss)
 
 -- What was read
 
--- the reader's refusals name the place of its first byte
+-- the reader's refusals name the place of its first byte, and their numbers are at most 5
 
 abbrev AtFirst : Read → Type 0
 AtFirst (Read.Record r l) = Unit {0}
-AtFirst (Read.Refused k p) = p ≡ 0
+AtFirst (Read.Refused k p) = (p ≡ 0) × (k ≤ outOfRange)
 
 either : (b : Bool) (x y : Read) → AtFirst x → AtFirst y → AtFirst (cond b x y)
 either true x y p q = p
@@ -89,17 +89,20 @@ either false x y p q = q
 
 at-first : (bytes : List ℕ) (before : Before) → AtFirst (readerAnswers bytes before)
 at-first bytes before =
-    either (eqb (length bytes) 0) _ _ refl
-    (either (isKind (getD bytes 0 0)) _ _ (known (kindOf (getD bytes 0 0))) refl)
+    either (eqb (length bytes) 0) _ _ (refl, lit≤ tt)
+    (either (isKind (getD bytes 0 0)) _ _ (known (kindOf (getD bytes 0 0))) (refl, lit≤ tt))
   where
     known : (k : Kind) → AtFirst (kindAnswer bytes before k)
     known k =
         let r : Record = record { kind = k; first = bodyNumber bytes k 1; second = bodyNumber bytes k 2 } in
-        either (leb (length bytes) (bodyLength k)) _ _ refl
-        (either (isPlaced before k) _ _ (either (inRangeAfter before r) (Read.Record r (recordLength r)) _ tt refl) refl)
+        either (leb (length bytes) (bodyLength k)) _ _ (refl, lit≤ tt)
+        (either (isPlaced before k) _ _ (either (inRangeAfter before r) (Read.Record r (recordLength r)) _ tt (refl, lit≤ tt)) (refl, lit≤ tt))
 
 pub refused-at-first : (bytes : List ℕ) (before : Before) (k p : ℕ) → readerAnswers bytes before ≡ Read.Refused k p → p ≡ 0
-refused-at-first bytes before k p e = subst AtFirst e (at-first bytes before)
+refused-at-first bytes before k p e = subst AtFirst e (at-first bytes before) .0
+
+pub refused-number : (bytes : List ℕ) (before : Before) (k p : ℕ) → readerAnswers bytes before ≡ Read.Refused k p → k ≤ outOfRange
+refused-number bytes before k p e = subst AtFirst e (at-first bytes before) .1
 
 -- steps that are read, and then a record that is refused
 record StoppedAt (h : Header) (place : ℕ) (bytes : List ℕ) (k at : ℕ) : Type 0 where

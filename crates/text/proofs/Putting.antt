@@ -1,5 +1,5 @@
 -- Bytes put one after the other: two parts, and a loop over a list. Assumes nothing.
-use mathlib.Core.Path.{_≡_, refl, sym, ap, ap₂, _∙_}
+use mathlib.Core.Path.{_≡_, refl, sym, ap, ap₂, subst, _∙_}
 use mathlib.Core.List.{List, [], _++_}
 use Prim.Native.Nat.{ℕ, suc, _+_, _≤_, _<_}
 use native.Mathlib.Nat.{add-zero}
@@ -18,6 +18,9 @@ put-then {before} {between} {after} {xs} {ys} {place} {middle} {end} x y =
       ends = omega (arith, x .ends, y .ends, length-append xs ys);
       leaves = y .leaves ∙ ap₂ (λ (l : List ℕ) (i : ℕ). sets l i ys) (x .leaves) (x .ends) ∙ sym (sets-append before place xs ys);
     }
+
+pub put-same : {before after xs ys : List ℕ} {place end : ℕ} → xs ≡ ys → Put before place xs end after → Put before place ys end after
+put-same {before} {after} {xs} {ys} {place} {end} e x = subst (λ l. Put before place l end after) e x
 
 -- A loop that puts the bytes of each element
 

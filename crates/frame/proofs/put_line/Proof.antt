@@ -1,14 +1,13 @@
 -- `frame::put_line` meets its contract: the report in hexadecimal, or the refusal. Assumes nothing.
-use mathlib.Core.Path.{_≡_, sym, ap, subst, _∙_}
+use mathlib.Core.Path.{_≡_, sym, ap, _∙_}
 use mathlib.Core.List.{_++_}
 use native.Mathlib.Omega.{arith}
 use lib.ListN.{length, take}
 use lib.Seq.{length-take-le}
 use borrow.Author.Needs.{needs}
-use Rattle.text.specs.Put.{Put}
 use Rattle.text.specs.Text.{ascii, hexadecimal}
 use Rattle.text.proofs.Laws.{hexadecimal-length}
-use Rattle.text.proofs.Putting.{put-then}
+use Rattle.text.proofs.Putting.{put-then, put-same}
 use Rattle.marker.specs.Run.{runAnswers}
 use Rattle.frame.specs.Types.{Written}
 use Rattle.frame.proofs.Laws.{written-most, written-room, line-done, line-refused, refusal-most}
@@ -45,7 +44,7 @@ put-line-spec =
     (λ c κs. let fits = c .before .known-told2 .given in let told = c .before .before .ran2 .given in omega (arith, refusal-most (told .0 .0) (told .0 .1 .0) (omega (arith, fits .0 .1)) (omega (arith, fits .1 .0 .1)), c .before .before .before .before .before .before .before .before .before .before .before .pre .1))
     (λ c. search needs)
     (λ c. search needs)
-    (λ c. let args = c .before .before .before .before .before .before .before .before .before .before .before .before .before .before .before .before .before .before .before .before .args in let l = c .before .before .before .before .before .before .before .before .before .before .before .ran .given .0 .0 in subst (λ b. Put _ _ b _ _) (ap (λ r. hexadecimal (take l r) ++ ascii "\n") (c .before .before .before .before .before .before .before .before .before .before .before .before .before .before .before .run .ensures .1) ∙ line-done (args .schedule .now) (args .report .now) l (done-here (c .before .before .before .before .before .before .before .before .before .before .before))) (put-then (c .before .before .before .before .before .before .before .put-hexadecimal .ensures) (c .before .before .put .ensures)))
+    (λ c. let args = c .before .before .before .before .before .before .before .before .before .before .before .before .before .before .before .before .before .before .before .before .args in let l = c .before .before .before .before .before .before .before .before .before .before .before .ran .given .0 .0 in (put-same (ap (λ r. hexadecimal (take l r) ++ ascii "\n") (c .before .before .before .before .before .before .before .before .before .before .before .before .before .before .before .run .ensures .1) ∙ line-done (args .schedule .now) (args .report .now) l (done-here (c .before .before .before .before .before .before .before .before .before .before .before))) (put-then (c .before .before .before .before .before .before .before .put-hexadecimal .ensures) (c .before .before .put .ensures)), omega (arith, c .before .before .put .ensures .ends, c .before .before .before .before .before .before .before .put-hexadecimal .ensures .ends, hexadecimal-length (take l (c .before .before .before .before .before .before .before .before .before .before .before .before .before .before .before .run .last .1 .0)), taken-here (c .before .before .before .before .before .before .before .before .before .before .before), written-most (args .schedule .now) (args .report .now) l (done-here (c .before .before .before .before .before .before .before .before .before .before .before)), c .before .before .before .before .before .before .before .before .before .before .before .before .before .before .before .before .before .before .before .before .pre .1)))
     (λ c. search needs)
     (λ c. search needs)
-    (λ c. let args = c .before .before .before .before .before .before .before .before .before .before .before .before .before .before .args in let told = c .before .before .before .before .before .ran2 .given in subst (λ b. Put _ _ b _ _) (line-refused (args .schedule .now) (length (args .report .now)) (told .0 .0) (told .0 .1 .0) (c .before .before .before .before .before .before .before .before .before .before .before .before .before .before .pre .0) (sym (c .before .before .before .before .before .before .before .before .before .run .ensures .0) ∙ told .1)) (c .before .before .put-refusal .ensures)))
+    (λ c. let args = c .before .before .before .before .before .before .before .before .before .before .before .before .before .before .args in let told = c .before .before .before .before .before .ran2 .given in (put-same (line-refused (args .schedule .now) (length (args .report .now)) (told .0 .0) (told .0 .1 .0) (c .before .before .before .before .before .before .before .before .before .before .before .before .before .before .pre .0) (sym (c .before .before .before .before .before .before .before .before .before .run .ensures .0) ∙ told .1)) (c .before .before .put-refusal .ensures), let fits = c .before .before .before .before .known-told2 .given in omega (arith, c .before .before .put-refusal .ensures .ends, refusal-most (told .0 .0) (told .0 .1 .0) (omega (arith, fits .0 .1)) (omega (arith, fits .1 .0 .1)), c .before .before .before .before .before .before .before .before .before .before .before .before .before .before .pre .1))))

@@ -1,0 +1,70 @@
+-- What the proofs of this crate use of the definitions: the lengths of their parts, and a line a step by bytes and by outcomes. Assumes nothing.
+use mathlib.Core.Path.{_≡_, refl, ap, ap₂}
+use mathlib.Core.List.{List, [], _∷_, _++_, map, append-assoc}
+use Prim.Native.Nat.{ℕ, zero, suc, _+_, _*_, _≤_, _<_}
+use native.Mathlib.Nat.{mul-suc}
+use native.Mathlib.Omega.{arith}
+use lib.ListN.{length, getD, take, length-append}
+use Rattle.text.specs.Text.{ascii, decimal}
+use Rattle.text.specs.Put.{each}
+use Rattle.text.proofs.Laws.{decimal-length}
+use Rattle.rules.specs.Report.{outcomeNumber}
+use Rattle.store.specs.Log.{places, empty}
+use Rattle.listing.specs.Types.{LogRecord, LogPair, Release, Outcome}
+use Rattle.listing.specs.Listing.{outcomeText, stepLines, countText, recordText, logText, callsLine, logsLine, endLines}
+use Rattle.listing.specs.Bytes.{byteText, byteLines}
+
+-- A byte's line is its outcome's
+
+byte-outcome : (o : Outcome) → byteText (outcomeNumber o) ≡ outcomeText o
+byte-outcome Outcome.Idle = refl
+byte-outcome Outcome.Moved = refl
+byte-outcome Outcome.Commit = refl
+byte-outcome Outcome.Abort = refl
+
+pub lines-outcomes : (k : ℕ) (os : List Outcome) → byteLines k (map outcomeNumber os) ≡ stepLines k os
+unfolding byteLines stepLines
+lines-outcomes k [] = refl
+lines-outcomes k (o ∷ os) = ap₂ (λ (x y : List ℕ). decimal k ++ (x ++ y)) (byte-outcome o) (lines-outcomes (suc k) os)
+
+-- Lengths
+
+pub record-one : (r : LogRecord) → length (recordText r) ≡ 1
+record-one LogRecord.None = refl
+record-one LogRecord.Yes = refl
+record-one LogRecord.Abort = refl
+record-one LogRecord.Commit = refl
+
+pub log-three : (l : LogPair) → length (logText l) ≡ 3
+log-three l = omega (arith, length-append (recordText (l .first)) (recordText (l .last)), record-one (l .first), record-one (l .last))
+
+-- the texts of the first n elements, where each has at most so many bytes
+each-few : {A : Type 0} (f : A → List ℕ) (d : A) (most n : ℕ) (xs : List A) → ((i : ℕ) → length (f (getD xs i d)) ≤ most)
+    → length (each f (take n xs)) ≤ most * n
+unfolding each
+each-few f d most zero xs few = omega arith
+each-few f d most (suc n) [] few = omega arith
+each-few f d most (suc n) (x ∷ xs) few =
+    omega (arith, few 0, each-few f d most n xs (λ i. few (suc i)), length-append (f x) (each f (take n xs)), mul-suc most n)
+
+module _ (r : Release) where
+  -- the five parts that are put
+  pub end-parts : endLines r
+      ≡ ascii "calls" ++ (each countText (take (suc (r .n)) (r .calls)) ++ (ascii "\nlogs" ++ (each logText (take (r .n) (r .store .logs)) ++ ascii "\n")))
+  end-parts = ap (λ l. ascii "calls" ++ l) (append-assoc (each countText (take (suc (r .n)) (r .calls))) (ascii "\n") (logsLine r))
+
+  pub end-long : length (endLines r) ≡ 11 + length (each countText (take (suc (r .n)) (r .calls))) + length (each logText (take (r .n) (r .store .logs)))
+  end-long =
+      let counts : List ℕ = each countText (take (suc (r .n)) (r .calls)) in
+      let logs : List ℕ = each logText (take (r .n) (r .store .logs)) in
+      omega (arith, length-append (callsLine r) (logsLine r), length-append counts (ascii "\n"), length-append logs (ascii "\n"))
+
+  -- the last lines are short where the counts have at most five digits
+  pub end-few : r .n ≤ places → ((p : ℕ) → getD (r .calls) p 0 < 100000) → length (endLines r) ≤ 89
+  end-few small few =
+      omega (
+        arith,
+        end-long,
+        each-few countText 0 6 (suc (r .n)) (r .calls) (λ p. omega (arith, decimal-length 5 (getD (r .calls) p 0) (omega arith) (few p))),
+        each-few logText empty 3 (r .n) (r .store .logs) (λ i. omega (arith, log-three (getD (r .store .logs) i empty))),
+      )

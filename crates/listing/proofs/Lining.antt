@@ -1,0 +1,103 @@
+-- What the loops over a report's bytes use of the lines: the first line and those after it, lengths, and lines put one after the other.
+-- Assumes nothing.
+use mathlib.Core.Path.{_≡_, refl, sym, ap, _∙_}
+use mathlib.Core.Bool.{Bool, true, false, cond}
+use mathlib.Core.List.{List, [], _∷_, _++_, append-assoc}
+use Prim.Native.Nat.{ℕ, suc, _+_, _*_, _≤_, _<_}
+use native.Mathlib.Numerals.{add-one}
+use native.Mathlib.Omega.{arith}
+use lib.Dec.{eqb}
+use lib.ListN.{length, getD, drop, length-append, drop-of-length-le}
+use lib.Seq.{sets, length-sets, drop-cons}
+use Rattle.number.proofs.Lists.{sets-append}
+use Rattle.text.specs.Text.{decimal}
+use Rattle.text.specs.Put.{Put}
+use Rattle.text.proofs.Laws.{decimal-length}
+use Rattle.schedule.specs.Record.{longest}
+use Rattle.listing.specs.Types.{Outcome}
+use Rattle.listing.specs.Listing.{outcomeText}
+use Rattle.listing.specs.Bytes.{byteText, byteLines}
+
+-- the lines of what is left before byte i
+abbrev pub linesFrom : List ℕ → ℕ → List ℕ
+linesFrom bytes i = byteLines (suc i) (drop i bytes)
+
+pub no-lines : byteLines 1 [] ≡ []
+unfolding byteLines
+no-lines = refl
+
+pub byte-few : (b : ℕ) → length (byteText b) ≤ 8
+byte-few b = few (eqb b 0) (eqb b 1) (eqb b 2)
+  where
+    few : (x y z : Bool)
+        → length (cond x (outcomeText Outcome.Idle) (cond y (outcomeText Outcome.Moved) (cond z (outcomeText Outcome.Commit) (outcomeText Outcome.Abort)))) ≤ 8
+    few true y z = omega arith
+    few false true z = omega arith
+    few false false true = omega arith
+    few false false false = omega arith
+
+pub number-few : (k l : ℕ) → l ≡ length (decimal k) → k ≤ longest → l ≤ 5
+number-few k l e h = rw e (decimal-length 5 k (omega arith) (omega arith))
+
+-- lines whose numbers have at most five digits
+pub lines-few : (k : ℕ) (bytes : List ℕ) → k + length bytes ≤ 100000 → length (byteLines k bytes) ≤ 13 * length bytes
+unfolding byteLines
+lines-few k [] h = omega arith
+lines-few k (b ∷ bytes) h =
+    omega (
+      arith,
+      length-append (decimal k) (byteText b ++ byteLines (suc k) bytes),
+      length-append (byteText b) (byteLines (suc k) bytes),
+      decimal-length 5 k (omega arith) (omega arith),
+      byte-few b,
+      lines-few (suc k) bytes (omega arith),
+    )
+
+-- the first line of what is left, and those after it
+module _ (bytes : List ℕ) (i : ℕ) where
+  pub lines-end : length bytes ≤ i → linesFrom bytes i ≡ []
+  unfolding byteLines
+  lines-end h = ap (byteLines (suc i)) (drop-of-length-le bytes h)
+
+  module _ (some : i < length bytes) where
+    first-line : linesFrom bytes i ≡ (decimal (i + 1) ++ byteText (getD bytes i 0)) ++ linesFrom bytes (i + 1)
+    unfolding byteLines
+    first-line =
+        ap (byteLines (suc i)) (drop-cons bytes i 0 some)
+        ∙ rw (add-one i) (sym (append-assoc (decimal (suc i)) (byteText (getD bytes i 0)) (linesFrom bytes (suc i))))
+
+    pub line-long : length (linesFrom bytes i) ≡ length (decimal (i + 1)) + length (byteText (getD bytes i 0)) + length (linesFrom bytes (i + 1))
+    line-long =
+        ap length first-line
+        ∙ length-append (decimal (i + 1) ++ byteText (getD bytes i 0)) (linesFrom bytes (i + 1))
+        ∙ ap (λ l. l + length (linesFrom bytes (i + 1))) (length-append (decimal (i + 1)) (byteText (getD bytes i 0)))
+
+-- before byte i, with `at` the place after the lines before: what is left gives what the whole gives
+pub record Lining (bytes text₀ text : List ℕ) (at i : ℕ) : Type 0 where
+  pub same : length text ≡ length text₀
+  pub end : at + length (linesFrom bytes i) ≡ length (byteLines 1 bytes)
+  pub rest : sets text at (linesFrom bytes i) ≡ sets text₀ 0 (byteLines 1 bytes)
+
+module _ (bytes text₀ : List ℕ) where
+  pub line-none : Lining bytes text₀ text₀ 0 0
+  line-none = record { same = refl; end = omega arith; rest = refl }
+
+  module _ (text : List ℕ) (at i : ℕ) (g : Lining bytes text₀ text at i) where
+    -- one turn puts a line
+    pub line-next : i < length bytes → {next : ℕ} {after : List ℕ} → Put text at (decimal (i + 1) ++ byteText (getD bytes i 0)) next after
+        → Lining bytes text₀ after next (i + 1)
+    line-next some {next} {after} p =
+        let line : List ℕ = decimal (i + 1) ++ byteText (getD bytes i 0) in
+        rw (p .ends, p .leaves) (record {
+          same = length-sets text at line ∙ g .same;
+          end = omega (arith, line-long bytes i some, length-append (decimal (i + 1)) (byteText (getD bytes i 0)), g .end);
+          rest = sym (sets-append text at line (linesFrom bytes (i + 1))) ∙ ap (sets text at) (sym (first-line bytes i some)) ∙ g .rest;
+        })
+
+    pub line-all : length bytes ≤ i → Put text₀ 0 (byteLines 1 bytes) at text
+    line-all done =
+        let none : linesFrom bytes i ≡ [] = lines-end bytes i done in
+        record {
+          ends = omega (arith, ap length none, g .end);
+          leaves = ap (sets text at) (sym none) ∙ g .rest;
+        }
