@@ -29,6 +29,9 @@ ghost use Rattle.passes.specs.declared.Validated.{Validated};
 ghost use Rattle.listing.specs.Listing.{endLines, listAnswers, listLeaves};
 ghost use Rattle.listing.specs.Bytes.{byteLines, textAnswer, textLeft};
 
+// No listing has more bytes than this.
+pub const LONGEST_TEXT: usize = 426034;
+
 // Room for the last two lines, and for a refusal.
 const LAST: usize = 96;
 

@@ -1,15 +1,14 @@
 -- What a run that is accepted leaves in the report: its steps' bytes, then its tail, then what was there. Assumes nothing.
 use mathlib.Core.Path.{_≡_, refl, sym, ap, _∙_}
-use mathlib.Core.Bool.{Bool, true, false, cond}
+use mathlib.Core.Bool.{cond}
 use mathlib.Core.List.{List, _++_, append-assoc}
 use Prim.Native.Nat.{ℕ, _+_, _-_, _≤_}
 use native.Mathlib.Omega.{arith}
-use lib.Dec.{ltb}
 use lib.ListN.{length, take, drop, length-append}
 use lib.Seq.{sets, sets-eq, take-at, drop-at}
-use borrow.Author.Tests.{ltb-false, le-ltb}
-use Rattle.number.specs.Refusal.{tooShort}
+use borrow.Author.Tests.{le-ltb}
 use Rattle.schedule.specs.Schedule.{Reading, Accepted, Refused, readSchedule}
+use Rattle.schedule.proofs.Laws.{room-done}
 use Rattle.rules.specs.Run.{after}
 use Rattle.tail.specs.Tail.{tailOf}
 use Rattle.passes.specs.Pass.{freshOf, stepBytes}
@@ -19,9 +18,6 @@ use Rattle.marker.specs.Report.{tailBytes, tailLength, reportBytes}
 use Rattle.marker.specs.Run.{readingAnswer, readingLeaves, runAnswers, runLeaves}
 use Rattle.marker.specs.Demand.{stepsLeft, tailLeft}
 use Rattle.marker.proofs.TailBytes.{tail-length}
-
-done-same : (a b : ℕ) → Written.Done a ≡ Written.Done b → a ≡ b
-done-same a b e = cc
 
 pub record Ran (report schedule : List ℕ) (written : ℕ) : Type 0 where
   pub header : Header
@@ -33,21 +29,10 @@ pub record Ran (report schedule : List ℕ) (written : ℕ) : Type 0 where
 pub ran : (report schedule : List ℕ) (written : ℕ) → runAnswers (length report) schedule ≡ Written.Done written → Ran report schedule written
 ran report schedule written d = go (readSchedule schedule) refl d
   where
-    by-room : (h : Header) (steps : List Step) → readSchedule schedule ≡ Accepted h steps → (b : Bool) → ltb (length report) (length steps + tailLength) ≡ b
-        → cond b (Written.Refused tooShort (length steps + tailLength)) (Written.Done (length steps + tailLength)) ≡ Written.Done written
-        → Ran report schedule written
-    by-room h steps e true t d = let z : _≡_ {A = ℕ} 0 1 = cc in absurd (omega arith)
-    by-room h steps e false t d =
-        record {
-          header = h;
-          steps = steps;
-          accepted = e;
-          length-written = sym (done-same (length steps + tailLength) written d);
-          room = ltb-false (length report) (length steps + tailLength) t;
-        }
-
     go : (x : Reading) → readSchedule schedule ≡ x → readingAnswer (length report) x ≡ Written.Done written → Ran report schedule written
-    go (Accepted h steps) e d = by-room h steps e (ltb (length report) (length steps + tailLength)) refl d
+    go (Accepted h steps) e d =
+        let x = room-done (length report) (length steps + tailLength) written d in
+        record { header = h; steps = steps; accepted = e; length-written = x .0; room = x .1 }
     go (Refused k p) e d = let z : _≡_ {A = ℕ} 0 1 = cc in absurd (omega arith)
 
 module _ (report schedule : List ℕ) (h : Header) (steps : List Step) (e : readSchedule schedule ≡ Accepted h steps) (room : length steps + tailLength ≤ length report) where
