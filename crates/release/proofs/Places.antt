@@ -1,20 +1,12 @@
--- Where things stand in a release, and the steps by the numbers of parties: a number that is not 0 is the one after its place. Assumes nothing.
+-- The steps by the numbers of parties: a number that is not 0 is the one after its place. Assumes nothing.
 use mathlib.Core.Path.{_≡_, refl, ap, ap₂}
 use mathlib.Core.Bool.{Bool, cond}
-use Prim.Native.Nat.{ℕ, zero, suc, _+_, _-_, _<_}
+use Prim.Native.Nat.{ℕ, zero, suc, _+_, _-_}
 use native.Mathlib.Omega.{arith}
-use Rattle.rules.specs.State.{messagePlace}
 use Rattle.rules.specs.Step.{idle, moved, drop, receive, calls, participantCalls, coordinatorCalls, step}
 use Rattle.rules.specs.Due.{messageDue}
 use Rattle.rules.specs.Types.{Message, Step}
 use Rattle.rules.specs.declared.Release.{Release}
-
-pub place-below : (m : Message) → messagePlace m < 5
-place-below Message.Request = omega arith
-place-below Message.ReplyYes = omega arith
-place-below Message.ReplyAbort = omega arith
-place-below Message.Commit = omega arith
-place-below Message.Abort = omega arith
 
 pub at-place : {A : Type 0} (f : ℕ → A) (p : ℕ) → (p ≡ 0 → ⊥) → f p ≡ f (suc (p - 1))
 at-place f zero h = absurd (h refl)

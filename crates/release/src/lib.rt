@@ -1,3 +1,2 @@
-// The code of one release: its parts, and one step. What it computes are the definitions of the crate `rules`.
-pub mod state;
+// The code of one step of a release. What it computes are the definitions of the crate `rules`.
 pub mod step;

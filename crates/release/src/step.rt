@@ -1,12 +1,5 @@
 // One step of a release: the rules of a party say what is due and what it leads to; here that is applied to the release. `i` and `j` are places,
 // which count from 0; `p` and `q` are the numbers of a party and of a log.
-use super::state::called;
-use super::state::log_of;
-use super::state::mask_of;
-use super::state::participant_of;
-use super::state::with_coordinator;
-use super::state::with_mask;
-use super::state::with_participant;
 use coordinator::Coordinator;
 use kind::Step;
 use message::Decision;
@@ -16,6 +9,13 @@ use participant::Participant;
 use rules::Outcome;
 use rules::Release;
 use rules::Report;
+use state::called;
+use state::log_of;
+use state::mask_of;
+use state::participant_of;
+use state::with_coordinator;
+use state::with_mask;
+use state::with_participant;
 use store::Logged;
 use store::Performed;
 ghost use mathlib.Core.Path.{_≡_};

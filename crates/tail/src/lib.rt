@@ -3,13 +3,13 @@ pub mod single;
 
 use coordinator::Coordinator;
 use participant::Participant;
-use release::state::log_of;
-use release::state::participant_of;
 use rules::PARTIES;
 use rules::Release;
 use rules::Site;
 use rules::TYPES;
 use schedule::Header;
+use state::log_of;
+use state::participant_of;
 use store::LOGS;
 use store::LogPair;
 use store::LogRecord;

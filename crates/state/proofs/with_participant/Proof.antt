@@ -1,12 +1,12 @@
--- `release::state::with_participant` meets its contract, case by case. Assumes nothing.
+-- `state::with_participant` meets its contract, case by case. Assumes nothing.
 use mathlib.Core.Path.{_≡_}
 use native.Mathlib.Omega.{arith}
 use lib.ListN.{length, length-map}
 use lib.Seq.{set-out}
 use mathlib.Core.Path.{refl}
 use borrow.Author.Needs.{needs}
-use Rattle.release.proofs.state.with_participant.Statement.{statement}
-use Rattle.release.proofs.state.with_participant.Tie as tie
+use Rattle.state.proofs.with_participant.Statement.{statement}
+use Rattle.state.proofs.with_participant.Tie as tie
 
 pub with-participant-spec : {M : Type 1} → statement M
 with-participant-spec =

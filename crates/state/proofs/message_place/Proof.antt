@@ -1,7 +1,7 @@
--- `release::state::message_place` meets its contract, case by case. Assumes nothing.
+-- `state::message_place` meets its contract, case by case. Assumes nothing.
 use borrow.Author.Needs.{needs}
-use Rattle.release.proofs.state.message_place.Statement.{statement}
-use Rattle.release.proofs.state.message_place.Tie as tie
+use Rattle.state.proofs.message_place.Statement.{statement}
+use Rattle.state.proofs.message_place.Tie as tie
 
 pub message-place-spec : {M : Type 1} → statement M
 message-place-spec =

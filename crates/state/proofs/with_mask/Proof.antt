@@ -1,10 +1,10 @@
--- `release::state::with_mask` meets its contract, case by case. Assumes nothing.
+-- `state::with_mask` meets its contract, case by case. Assumes nothing.
 use native.Mathlib.Omega.{arith}
-use Rattle.release.proofs.Places.{place-below}
+use Rattle.state.proofs.Places.{place-below}
 use borrow.Author.Tests.{lt-ltb}
 use borrow.Author.Needs.{needs}
-use Rattle.release.proofs.state.with_mask.Statement.{statement}
-use Rattle.release.proofs.state.with_mask.Tie as tie
+use Rattle.state.proofs.with_mask.Statement.{statement}
+use Rattle.state.proofs.with_mask.Tie as tie
 
 pub with-mask-spec : {M : Type 1} → statement M
 with-mask-spec =

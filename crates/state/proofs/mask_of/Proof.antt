@@ -1,10 +1,10 @@
--- `release::state::mask_of` meets its contract, case by case. Assumes nothing.
+-- `state::mask_of` meets its contract, case by case. Assumes nothing.
 use native.Mathlib.Omega.{arith}
-use Rattle.release.proofs.Places.{place-below}
+use Rattle.state.proofs.Places.{place-below}
 use borrow.Author.Tests.{lt-ltb}
 use borrow.Author.Needs.{needs}
-use Rattle.release.proofs.state.mask_of.Statement.{statement}
-use Rattle.release.proofs.state.mask_of.Tie as tie
+use Rattle.state.proofs.mask_of.Statement.{statement}
+use Rattle.state.proofs.mask_of.Tie as tie
 
 pub mask-of-spec : {M : Type 1} → statement M
 mask-of-spec =

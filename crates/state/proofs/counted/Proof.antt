@@ -1,4 +1,4 @@
--- `release::state::counted` meets its contract, case by case. Assumes nothing.
+-- `state::counted` meets its contract, case by case. Assumes nothing.
 use mathlib.Core.Path.{_≡_}
 use native.Mathlib.Omega.{arith}
 use lib.ListN.{length, length-map}
@@ -7,8 +7,8 @@ use mathlib.Core.Path.{refl}
 use lib.ListN.{getD}
 use Prim.Native.Nat.{_+_}
 use borrow.Author.Needs.{needs}
-use Rattle.release.proofs.state.counted.Statement.{statement}
-use Rattle.release.proofs.state.counted.Tie as tie
+use Rattle.state.proofs.counted.Statement.{statement}
+use Rattle.state.proofs.counted.Tie as tie
 
 pub counted-spec : {M : Type 1} → statement M
 counted-spec =

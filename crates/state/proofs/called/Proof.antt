@@ -1,7 +1,7 @@
--- `release::state::called` meets its contract, case by case. Assumes nothing.
+-- `state::called` meets its contract, case by case. Assumes nothing.
 use borrow.Author.Needs.{needs}
-use Rattle.release.proofs.state.called.Statement.{statement}
-use Rattle.release.proofs.state.called.Tie as tie
+use Rattle.state.proofs.called.Statement.{statement}
+use Rattle.state.proofs.called.Tie as tie
 
 pub called-spec : {M : Type 1} → statement M
 called-spec =

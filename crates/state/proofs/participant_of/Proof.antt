@@ -1,12 +1,12 @@
--- `release::state::participant_of` meets its contract, case by case. Assumes nothing.
+-- `state::participant_of` meets its contract, case by case. Assumes nothing.
 use mathlib.Core.Path.{_≡_, sym, ap}
 use native.Mathlib.Omega.{arith}
 use lib.ListN.{length, length-map, List·getD-eq-default}
 use Rattle.rules.specs.State.{waiting}
 use Rattle.rules.specs.declared.Site.{Site}
 use borrow.Author.Needs.{needs}
-use Rattle.release.proofs.state.participant_of.Statement.{statement}
-use Rattle.release.proofs.state.participant_of.Tie as tie
+use Rattle.state.proofs.participant_of.Statement.{statement}
+use Rattle.state.proofs.participant_of.Tie as tie
 
 pub participant-of-spec : {M : Type 1} → statement M
 participant-of-spec =
