@@ -10,9 +10,10 @@ use Rattle.text.specs.Put.{each}
 use Rattle.text.proofs.Laws.{decimal-length}
 use Rattle.rules.specs.Report.{outcomeNumber}
 use Rattle.store.specs.Log.{places, empty}
-use Rattle.listing.specs.Types.{LogRecord, LogPair, Release, Outcome}
-use Rattle.listing.specs.Listing.{outcomeText, stepLines, countText, recordText, logText, callsLine, logsLine, endLines}
-use Rattle.listing.specs.Bytes.{byteText, byteLines}
+use Rattle.lines.specs.Lines.{outcomeText, countText, logText, byteText, byteLines}
+use Rattle.lines.proofs.Laws.{log-three}
+use Rattle.listing.specs.Types.{Release, Outcome}
+use Rattle.listing.specs.Listing.{stepLines, callsLine, logsLine, endLines}
 
 -- A byte's line is its outcome's
 
@@ -28,15 +29,6 @@ lines-outcomes k [] = refl
 lines-outcomes k (o ∷ os) = ap₂ (λ (x y : List ℕ). decimal k ++ (x ++ y)) (byte-outcome o) (lines-outcomes (suc k) os)
 
 -- Lengths
-
-pub record-one : (r : LogRecord) → length (recordText r) ≡ 1
-record-one LogRecord.None = refl
-record-one LogRecord.Yes = refl
-record-one LogRecord.Abort = refl
-record-one LogRecord.Commit = refl
-
-pub log-three : (l : LogPair) → length (logText l) ≡ 3
-log-three l = omega (arith, length-append (recordText (l .first)) (recordText (l .last)), record-one (l .first), record-one (l .last))
 
 -- the texts of the first n elements, where each has at most so many bytes
 each-few : {A : Type 0} (f : A → List ℕ) (d : A) (most n : ℕ) (xs : List A) → ((i : ℕ) → length (f (getD xs i d)) ≤ most)

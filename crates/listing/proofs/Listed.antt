@@ -21,7 +21,8 @@ use Rattle.passes.proofs.Passed.{passed, bytes-length}
 use Rattle.listing.specs.Types.{Step, Header, Written, Release, Validated}
 use Rattle.text.specs.Text.{refusalLine}
 use Rattle.listing.specs.Listing.{endLines, readingText, listing}
-use Rattle.listing.specs.Bytes.{byteLines, textAnswer, textLeft}
+use Rattle.lines.specs.Lines.{byteLines}
+use Rattle.listing.specs.Bytes.{textAnswer, textLeft}
 use Rattle.listing.proofs.Laws.{lines-outcomes, end-few}
 
 -- A text that is too short for some bytes, and one that has room for them

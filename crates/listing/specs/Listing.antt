@@ -11,15 +11,10 @@ use Rattle.schedule.specs.Schedule.{Reading, Accepted, Refused, readSchedule}
 use Rattle.schedule.specs.Writer.{roomAnswer}
 use Rattle.rules.specs.Run.{outcomes, after}
 use Rattle.passes.specs.Pass.{freshOf}
-use Rattle.listing.specs.Types.{LogRecord, LogPair, Written, Release, Outcome}
+use Rattle.lines.specs.Lines.{outcomeText, countText, logText}
+use Rattle.listing.specs.Types.{Written, Release, Outcome}
 
 -- A line a step: step number from 1, then idle, moved, commit or abort
-
-abbrev pub outcomeText : Outcome → List ℕ
-outcomeText Outcome.Idle = ascii " idle\n"
-outcomeText Outcome.Moved = ascii " moved\n"
-outcomeText Outcome.Commit = ascii " commit\n"
-outcomeText Outcome.Abort = ascii " abort\n"
 
 unfoldable pub stepLines : ℕ → List Outcome → List ℕ
 stepLines k [] = []
@@ -27,22 +22,10 @@ stepLines k (o ∷ os) = decimal k ++ (outcomeText o ++ stepLines (suc k) os)
 
 -- Then `calls` with the counts of parties 0 to n
 
-abbrev pub countText : ℕ → List ℕ
-countText k = ascii " " ++ decimal k
-
 abbrev pub callsLine : Release → List ℕ
 callsLine r = ascii "calls" ++ (each countText (take (suc (r .n)) (r .calls)) ++ ascii "\n")
 
 -- then `logs` with first and last per participant as `-`, `y`, `a`, `c`
-
-abbrev pub recordText : LogRecord → List ℕ
-recordText LogRecord.None = ascii "-"
-recordText LogRecord.Yes = ascii "y"
-recordText LogRecord.Abort = ascii "a"
-recordText LogRecord.Commit = ascii "c"
-
-abbrev pub logText : LogPair → List ℕ
-logText l = ascii " " ++ (recordText (l .first) ++ recordText (l .last))
 
 abbrev pub logsLine : Release → List ℕ
 logsLine r = ascii "logs" ++ (each logText (take (r .n) (r .store .logs)) ++ ascii "\n")

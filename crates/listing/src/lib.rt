@@ -1,6 +1,4 @@
 // The listing of a schedule, in a lent text: a line a step, the counts of calls and the logs; or the refusal.
-mod lines;
-
 use lines::lines_length;
 use lines::put_counts;
 use lines::put_lines;
@@ -27,7 +25,8 @@ ghost use Rattle.schedule.specs.Schedule.{readSchedule};
 ghost use Rattle.passes.specs.Pass.{validated};
 ghost use Rattle.passes.specs.declared.Validated.{Validated};
 ghost use Rattle.listing.specs.Listing.{endLines, listAnswers, listLeaves};
-ghost use Rattle.listing.specs.Bytes.{byteLines, textAnswer, textLeft};
+ghost use Rattle.lines.specs.Lines.{byteLines};
+ghost use Rattle.listing.specs.Bytes.{textAnswer, textLeft};
 
 // No listing has more bytes than this.
 pub const LONGEST_TEXT: usize = 426034;

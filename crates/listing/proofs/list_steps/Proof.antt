@@ -12,7 +12,8 @@ use Rattle.schedule.specs.Schedule.{readSchedule}
 use Rattle.passes.specs.Pass.{stepsOf, freshOf, stepBytes}
 use Rattle.passes.proofs.Passed.{passed}
 use Rattle.listing.specs.Listing.{endLines}
-use Rattle.listing.specs.Bytes.{byteLines, textAnswer, textLeft}
+use Rattle.lines.specs.Lines.{byteLines}
+use Rattle.listing.specs.Bytes.{textAnswer, textLeft}
 use Rattle.listing.proofs.Listed.{put-front, run-bytes, run-small, listed}
 use Rattle.listing.proofs.list_steps.Statement.{statement}
 use Rattle.listing.proofs.list_steps.Tie as tie

@@ -1,13 +1,13 @@
--- `listing::lines::put_counts` meets its contract: what is left to put, after what was put, is the whole. Assumes nothing.
+-- `lines::put_counts` meets its contract: what is left to put, after what was put, is the whole. Assumes nothing.
 use Prim.Native.Nat.{suc, _-_, _≤_}
 use native.Mathlib.Omega.{arith}
 use lib.ListN.{length, take}
 use borrow.Author.Needs.{needs}
 use Rattle.text.proofs.Putting.{Putting, put-none, put-then}
-use Rattle.listing.specs.Listing.{countText}
-use Rattle.listing.proofs.Front.{front-room, front-next, front-all}
-use Rattle.listing.proofs.lines.put_counts.Statement.{statement}
-use Rattle.listing.proofs.lines.put_counts.Tie as tie
+use Rattle.lines.specs.Lines.{countText}
+use Rattle.lines.proofs.Front.{front-room, front-next, front-all}
+use Rattle.lines.proofs.put_counts.Statement.{statement}
+use Rattle.lines.proofs.put_counts.Tie as tie
 
 abbrev Inv-loop : tie.InvT-loop
 Inv-loop text₀ place n calls parties at₀ p₀ t11 text at p =

@@ -1,15 +1,15 @@
--- `listing::lines::put_logs` meets its contract: what is left to put, after what was put, is the whole. Assumes nothing.
+-- `lines::put_logs` meets its contract: what is left to put, after what was put, is the whole. Assumes nothing.
 use Prim.Native.Nat.{_-_, _≤_}
 use native.Mathlib.Omega.{arith}
 use lib.ListN.{length, getD, take}
 use borrow.Author.Needs.{needs}
 use Rattle.text.proofs.Putting.{Putting, put-none}
 use Rattle.store.specs.Log.{empty}
-use Rattle.listing.specs.Listing.{logText}
-use Rattle.listing.proofs.Laws.{log-three}
-use Rattle.listing.proofs.Front.{front-room, front-next, front-all}
-use Rattle.listing.proofs.lines.put_logs.Statement.{statement}
-use Rattle.listing.proofs.lines.put_logs.Tie as tie
+use Rattle.lines.specs.Lines.{logText}
+use Rattle.lines.proofs.Laws.{log-three}
+use Rattle.lines.proofs.Front.{front-room, front-next, front-all}
+use Rattle.lines.proofs.put_logs.Statement.{statement}
+use Rattle.lines.proofs.put_logs.Tie as tie
 
 abbrev Inv-loop : tie.InvT-loop
 Inv-loop text₀ place n logs participants at₀ i₀ text at i = (i ≤ n) × (n ≤ length logs) × Putting logText (take n logs) text₀ place text at i

@@ -1,13 +1,13 @@
--- `listing::lines::lines_length` meets its contract: the lines counted and those left are all. Assumes nothing.
+-- `lines::lines_length` meets its contract: the lines counted and those left are all. Assumes nothing.
 use mathlib.Core.Path.{_≡_, ap}
 use Prim.Native.Nat.{_+_, _*_, _-_, _≤_}
 use native.Mathlib.Omega.{arith}
 use lib.ListN.{length, getD}
 use borrow.Author.Needs.{needs}
-use Rattle.listing.specs.Bytes.{byteLines}
-use Rattle.listing.proofs.Lining.{linesFrom, byte-few, number-few, lines-end, line-long}
-use Rattle.listing.proofs.lines.lines_length.Statement.{statement}
-use Rattle.listing.proofs.lines.lines_length.Tie as tie
+use Rattle.lines.specs.Lines.{byteLines}
+use Rattle.lines.proofs.Lining.{linesFrom, byte-few, number-few, lines-end, line-long}
+use Rattle.lines.proofs.lines_length.Statement.{statement}
+use Rattle.lines.proofs.lines_length.Tie as tie
 
 -- the lines counted and those left are all lines; the bound keeps the sum from wrapping
 abbrev Inv-loop : tie.InvT-loop

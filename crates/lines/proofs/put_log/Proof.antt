@@ -1,10 +1,10 @@
--- `listing::lines::put_log` meets its contract: its three parts follow one another. Assumes nothing.
+-- `lines::put_log` meets its contract: its three parts follow one another. Assumes nothing.
 use native.Mathlib.Omega.{arith}
 use borrow.Author.Needs.{needs}
 use Rattle.text.proofs.Putting.{put-then}
-use Rattle.listing.proofs.Laws.{record-one}
-use Rattle.listing.proofs.lines.put_log.Statement.{statement}
-use Rattle.listing.proofs.lines.put_log.Tie as tie
+use Rattle.lines.proofs.Laws.{record-one}
+use Rattle.lines.proofs.put_log.Statement.{statement}
+use Rattle.lines.proofs.put_log.Tie as tie
 
 pub put-log-spec : {M : Type 1} → statement M
 put-log-spec =

@@ -1,8 +1,8 @@
--- `listing::lines::put_byte` meets its contract, case by case. Assumes nothing.
+-- `lines::put_byte` meets its contract, case by case. Assumes nothing.
 use borrow.Author.Needs.{needs}
 use borrow.Author.Tests.{ne-eqb}
-use Rattle.listing.proofs.lines.put_byte.Statement.{statement}
-use Rattle.listing.proofs.lines.put_byte.Tie as tie
+use Rattle.lines.proofs.put_byte.Statement.{statement}
+use Rattle.lines.proofs.put_byte.Tie as tie
 
 pub put-byte-spec : {M : Type 1} → statement M
 put-byte-spec =

@@ -1,7 +1,7 @@
--- `listing::lines::byte_length` meets its contract, case by case. Assumes nothing.
+-- `lines::byte_length` meets its contract, case by case. Assumes nothing.
 use borrow.Author.Tests.{ne-eqb}
-use Rattle.listing.proofs.lines.byte_length.Statement.{statement}
-use Rattle.listing.proofs.lines.byte_length.Tie as tie
+use Rattle.lines.proofs.byte_length.Statement.{statement}
+use Rattle.lines.proofs.byte_length.Tie as tie
 
 pub byte-length-spec : {M : Type 1} → statement M
 byte-length-spec =

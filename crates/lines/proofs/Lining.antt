@@ -14,9 +14,9 @@ use Rattle.text.specs.Text.{decimal}
 use Rattle.text.specs.Put.{Put}
 use Rattle.text.proofs.Laws.{decimal-length}
 use Rattle.schedule.specs.Record.{longest}
-use Rattle.listing.specs.Types.{Outcome}
-use Rattle.listing.specs.Listing.{outcomeText}
-use Rattle.listing.specs.Bytes.{byteText, byteLines}
+use Rattle.lines.specs.Types.{Outcome}
+use Rattle.lines.specs.Lines.{outcomeText}
+use Rattle.lines.specs.Lines.{byteText, byteLines}
 
 -- the lines of what is left before byte i
 abbrev pub linesFrom : List ℕ → ℕ → List ℕ

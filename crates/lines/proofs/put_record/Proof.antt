@@ -1,7 +1,7 @@
--- `listing::lines::put_record` meets its contract, case by case. Assumes nothing.
+-- `lines::put_record` meets its contract, case by case. Assumes nothing.
 use borrow.Author.Needs.{needs}
-use Rattle.listing.proofs.lines.put_record.Statement.{statement}
-use Rattle.listing.proofs.lines.put_record.Tie as tie
+use Rattle.lines.proofs.put_record.Statement.{statement}
+use Rattle.lines.proofs.put_record.Tie as tie
 
 pub put-record-spec : {M : Type 1} → statement M
 put-record-spec =

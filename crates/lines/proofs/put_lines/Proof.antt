@@ -1,12 +1,12 @@
--- `listing::lines::put_lines` meets its contract: what is left to put, after what was put, is the whole. Assumes nothing.
+-- `lines::put_lines` meets its contract: what is left to put, after what was put, is the whole. Assumes nothing.
 use Prim.Native.Nat.{_-_, _≤_}
 use native.Mathlib.Omega.{arith}
 use lib.ListN.{length}
 use borrow.Author.Needs.{needs}
 use Rattle.text.proofs.Putting.{put-then}
-use Rattle.listing.proofs.Lining.{Lining, line-long, line-none, line-next, line-all}
-use Rattle.listing.proofs.lines.put_lines.Statement.{statement}
-use Rattle.listing.proofs.lines.put_lines.Tie as tie
+use Rattle.lines.proofs.Lining.{Lining, line-long, line-none, line-next, line-all}
+use Rattle.lines.proofs.put_lines.Statement.{statement}
+use Rattle.lines.proofs.put_lines.Tie as tie
 
 abbrev Inv-loop : tie.InvT-loop
 Inv-loop text₀ bytes at₀ i₀ text at i = (i ≤ length bytes) × Lining bytes text₀ text at i

@@ -12,8 +12,7 @@ ghost use lib.ListN.{length, take};
 ghost use Rattle.text.specs.Put.{Put, each};
 ghost use Rattle.store.specs.Log.{places};
 ghost use Rattle.schedule.specs.Record.{longest};
-ghost use Rattle.listing.specs.Listing.{countText, recordText, logText};
-ghost use Rattle.listing.specs.Bytes.{byteText, byteLines};
+ghost use Rattle.lines.specs.Lines.{countText, recordText, logText, byteText, byteLines};
 
 // The length of what follows a step's number.
 fn byte_length(b: u8) -> usize
