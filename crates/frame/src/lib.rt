@@ -2,10 +2,10 @@
 use marker::TAIL;
 use marker::run;
 use schedule::LONGEST;
-use schedule::writer::Written;
 use text::put;
 use text::put_hexadecimal;
 use text::put_refusal;
+use writer::Written;
 ghost use mathlib.Core.Path.{_≡_};
 ghost use Prim.Native.Nat.{_+_, _≤_, _<_};
 ghost use lib.ListN.{length};

@@ -5,7 +5,7 @@ use Prim.Native.Nat.{ℕ}
 use lib.Dec.{ltb}
 use lib.ListN.{length}
 use lib.Seq.{sets}
-use Rattle.schedule.specs.Writer.{roomAnswer}
+use Rattle.writer.specs.Writer.{roomAnswer}
 use Rattle.listing.specs.Types.{Written}
 
 -- the length written, or 6 with the length needed; and what is left

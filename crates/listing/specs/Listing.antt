@@ -8,7 +8,7 @@ use lib.Seq.{sets}
 use Rattle.text.specs.Text.{ascii, decimal, refusalLine}
 use Rattle.text.specs.Put.{each}
 use Rattle.schedule.specs.Schedule.{Reading, Accepted, Refused, readSchedule}
-use Rattle.schedule.specs.Writer.{roomAnswer}
+use Rattle.writer.specs.Writer.{roomAnswer}
 use Rattle.rules.specs.Run.{outcomes, after}
 use Rattle.passes.specs.Pass.{freshOf}
 use Rattle.lines.specs.Lines.{outcomeText, countText, logText}

@@ -3,7 +3,7 @@ pub use Rattle.store.specs.declared.LogRecord.{LogRecord}
 pub use Rattle.store.specs.declared.LogPair.{LogPair}
 pub use Rattle.kind.specs.declared.Step.{Step}
 pub use Rattle.schedule.specs.declared.Header.{Header}
-pub use Rattle.schedule.specs.declared.writer.Written.{Written}
+pub use Rattle.writer.specs.declared.Written.{Written}
 pub use Rattle.rules.specs.declared.Release.{Release}
 pub use Rattle.rules.specs.declared.Outcome.{Outcome}
 pub use Rattle.passes.specs.declared.Validated.{Validated}

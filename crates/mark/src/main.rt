@@ -4,7 +4,7 @@ use libc::STDOUT_FILENO;
 use listing::LONGEST_TEXT;
 use listing::list;
 use schedule::LONGEST;
-use schedule::writer::Written;
+use writer::Written;
 
 // Reads until the buffer is full or the input ends. The text has room for every listing.
 fn mark(schedule: &mut [u8], text: &mut [u8]) {

@@ -8,7 +8,7 @@ use lib.ListN.{length, take, drop, length-append}
 use lib.Seq.{sets, sets-eq, take-at, drop-at}
 use borrow.Author.Tests.{le-ltb}
 use Rattle.schedule.specs.Schedule.{Reading, Accepted, Refused, readSchedule}
-use Rattle.schedule.proofs.Laws.{room-done}
+use Rattle.writer.proofs.Laws.{room-done}
 use Rattle.rules.specs.Run.{after}
 use Rattle.tail.specs.Tail.{tailOf}
 use Rattle.passes.specs.Pass.{freshOf, stepBytes}

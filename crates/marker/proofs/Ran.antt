@@ -9,7 +9,7 @@ use lib.ListN.{length}
 use lib.Seq.{sets}
 use Rattle.number.proofs.Lists.{sets-append}
 use Rattle.schedule.specs.Schedule.{Reading, Accepted, Refused, readSchedule}
-use Rattle.schedule.specs.Writer.{roomAnswer}
+use Rattle.writer.specs.Writer.{roomAnswer}
 use Rattle.rules.specs.Run.{after}
 use Rattle.tail.specs.Tail.{tailOf}
 use Rattle.passes.specs.Pass.{validated, stepsOf, freshOf, stepBytes}

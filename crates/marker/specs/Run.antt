@@ -7,7 +7,7 @@ use lib.Dec.{ltb}
 use lib.ListN.{length}
 use lib.Seq.{sets}
 use Rattle.schedule.specs.Schedule.{Reading, Accepted, Refused, readSchedule}
-use Rattle.schedule.specs.Writer.{roomAnswer}
+use Rattle.writer.specs.Writer.{roomAnswer}
 use Rattle.marker.specs.Types.{Written}
 use Rattle.marker.specs.Report.{tailLength, reportBytes}
 

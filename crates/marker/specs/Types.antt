@@ -6,7 +6,7 @@ pub use Rattle.schedule.specs.declared.Header.{Header}
 pub use Rattle.schedule.specs.declared.Record.{Record}
 pub use Rattle.schedule.specs.declared.reader.Before.{Before}
 pub use Rattle.schedule.specs.declared.reader.Read.{Read}
-pub use Rattle.schedule.specs.declared.writer.Written.{Written}
+pub use Rattle.writer.specs.declared.Written.{Written}
 pub use Rattle.rules.specs.declared.Release.{Release}
 pub use Rattle.rules.specs.declared.Outcome.{Outcome}
 pub use Rattle.rules.specs.declared.Report.{Report}

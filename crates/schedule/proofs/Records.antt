@@ -2,24 +2,21 @@
 use mathlib.Core.Path.{_≡_, refl, sym, ap, _∙_}
 use mathlib.Core.Bool.{Bool, true, false, cond, not}
 use mathlib.Core.List.{List, [], _∷_, _++_}
-use Prim.Native.Nat.{ℕ, _+_, _≤_, _<_}
+use Prim.Native.Nat.{ℕ, _+_, _<_}
 use native.Mathlib.Omega.{arith}
 use lib.Dec.{eqb, leb}
 use lib.ListN.{length, getD, take, drop, length-append}
-use lib.Seq.{drop-cons, sets}
-use borrow.Author.Tests.{leb-false, eq-eqb, ne-eqb, le-ltb, le-leb, lt-leb, not-true}
-use Rattle.number.specs.Refusal.{emptyOrTooLong, unknownKind, bodyCutShort, headerMisplaced, outOfRange, tooShort}
-use Rattle.number.proofs.Laws.{and-left, and-right, and-true, is-number}
-use Rattle.store.specs.Log.{places}
+use lib.Seq.{drop-cons}
+use borrow.Author.Tests.{leb-false, eq-eqb, ne-eqb, lt-leb, not-true}
+use Rattle.number.specs.Refusal.{emptyOrTooLong, unknownKind, bodyCutShort, headerMisplaced, outOfRange}
+use Rattle.number.proofs.Laws.{and-left, and-right, and-true}
 use Rattle.kind.specs.Kind.{kindNumber, kindOf, isKind, bodyLength, isHeader}
 use Rattle.kind.specs.Step.{isStep, ofKind, inRange, numbersInRange}
-use Rattle.kind.proofs.Numbers.{kind-numbers, kind-encoded, kind-of-step, step-no-header, step-tested, more-tested}
-use Rattle.schedule.specs.Types.{Kind, Step, Header, Record, Before, Read, Written}
-use Rattle.schedule.specs.Record.{recordOf, recordHeader, recordStep, stepRecord, headerInRange, recordInRange, recordLength, recordBytes, longest}
+use Rattle.kind.proofs.Numbers.{kind-numbers, kind-encoded, kind-of-step, step-no-header, step-tested}
+use Rattle.schedule.specs.Types.{Kind, Step, Header, Record, Before, Read}
+use Rattle.schedule.specs.Record.{recordStep, stepRecord, headerInRange, recordInRange, recordLength, recordBytes}
 use Rattle.schedule.specs.Reader.{refused, bodyNumber, isPlaced, inRangeAfter, kindAnswer, readerAnswers}
-use Rattle.schedule.specs.Writer.{isWritable, roomAnswer, recordAnswer, leaves}
-use Rattle.schedule.specs.RoundTrip.{mayFollow, answersFor, leavesFor}
-use Rattle.schedule.proofs.Laws.{header-size}
+use Rattle.schedule.specs.RoundTrip.{mayFollow}
 
 -- the record of a kind with its body's numbers
 abbrev pub recordWith : Kind → ℕ → ℕ → Record
@@ -161,45 +158,6 @@ module _ (bytes : List ℕ) (before : Before) where
       let some = record-right (eqb (length bytes) 0) _ emptyOrTooLong r l q in
       let known = record-left (isKind x) _ unknownKind r l (some .1) in
       body-yielded (kindOf x) r l (sym (kind-numbers .encoded x (known .0))) (known .1)
-
--- A record that may follow is one that the writer takes, since n is at most 8
-
-more-range : (n : ℕ) (r : Record) → n ≤ places → recordInRange n r ≡ true → recordInRange places r ≡ true
-more-range n r h q = by (isHeader (r .kind)) q
-  where
-    by : (b : Bool) → cond b (headerInRange (recordHeader r)) (numbersInRange n (kindNumber (r .kind)) (r .first) (r .second)) ≡ true
-        → cond b (headerInRange (recordHeader r)) (numbersInRange places (kindNumber (r .kind)) (r .first) (r .second)) ≡ true
-    by true q = q
-    by false q = more-tested n places h (kindNumber (r .kind)) (r .first) (r .second) q
-
-after-writable : (before : Before) (r : Record) → inRangeAfter before r ≡ true → recordInRange places r ≡ true
-after-writable Before.Nothing r q = more-range 0 r (omega arith) q
-after-writable (Before.Header h) r q =
-    more-range (h .n) r (header-size h (and-left (headerInRange h) _ q) .1) (and-right (headerInRange h) _ q)
-
-pub written : (buffer : List ℕ) (place : ℕ) (before : Before) (r : Record) → mayFollow before r ≡ true → place ≤ longest
-    → place + recordLength r ≤ length buffer
-    → (answersFor (length buffer) place r ≡ Written.Done (place + recordLength r)) × (leavesFor buffer place r ≡ sets buffer place (recordBytes r))
-written buffer place before r q near room = (answered, ap (leaves buffer place r′) answered ∙ ap (λ (x : Record). sets buffer place (recordBytes x)) same)
-  where
-    k : Kind
-    k = r .kind
-
-    r′ : Record
-    r′ = recordOf (kindNumber k) (r .first) (r .second)
-
-    same : r′ ≡ r
-    same = ap (λ (x : Kind). recordWith x (r .first) (r .second)) (kind-numbers .decoded k)
-
-    taken : isWritable place r ≡ true
-    taken = and-true _ _ (le-leb place longest near) (after-writable before r (and-right (isPlaced before k) _ q))
-
-    answered : answersFor (length buffer) place r ≡ Written.Done (place + recordLength r)
-    answered =
-        ap (λ b. cond b (recordAnswer (length buffer) place r′) (Written.Refused unknownKind place)) (is-number kindNumber kindOf kind-numbers k)
-        ∙ ap (recordAnswer (length buffer) place) same
-        ∙ ap (λ b. cond b (roomAnswer (length buffer) (place + recordLength r)) (Written.Refused outOfRange place)) taken
-        ∙ ap (λ b. cond b (Written.Refused tooShort (place + recordLength r)) (Written.Done (place + recordLength r))) (le-ltb (length buffer) (place + recordLength r) room)
 
 -- Steps as records, and back
 

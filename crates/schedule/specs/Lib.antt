@@ -1,6 +1,5 @@
 pub mod Types
 pub mod Record
 pub mod Reader
-pub mod Writer
 pub mod Schedule
 pub mod RoundTrip

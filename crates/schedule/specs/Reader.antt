@@ -6,7 +6,7 @@ use lib.Dec.{eqb, leb}
 use lib.ListN.{length, getD}
 use Rattle.number.specs.Refusal.{Handed, hands, accepted, emptyOrTooLong, unknownKind, bodyCutShort, headerMisplaced, outOfRange}
 use Rattle.kind.specs.Kind.{kindOf, isKind, bodyLength, isHeader}
-use Rattle.schedule.specs.Types.{Kind, Header, Record, Before, Read}
+use Rattle.schedule.specs.Types.{Kind, Record, Before, Read}
 use Rattle.schedule.specs.Record.{headerInRange, recordInRange, recordLength}
 
 -- a refusal names the place of the record's first byte, counted in the bytes given

@@ -1,44 +1,19 @@
--- Nothing is lost between bytes and records, either way, and a refusal is the first from the left. Proved in proofs/RoundTrip.antt. Assumes nothing.
+-- Nothing is lost between bytes and steps, either way, and a refusal is the first from the left. Proved in proofs/RoundTrip.antt. Assumes nothing.
 use mathlib.Core.Path.{_≡_}
 use mathlib.Core.Bool.{Bool, true, _&&_}
-use mathlib.Core.List.{List, [], _∷_, _++_, map}
+use mathlib.Core.List.{List, [], _∷_, _++_}
 use Prim.Native.Nat.{ℕ, _+_, _≤_, _<_}
-use lib.ListN.{length, take, drop}
-use lib.Seq.{sets}
+use lib.ListN.{length}
 use Rattle.number.specs.Refusal.{emptyOrTooLong}
-use Rattle.kind.specs.Kind.{kindNumber}
 use Rattle.kind.specs.Step.{AllInRange}
-use Rattle.schedule.specs.Types.{Step, Header, Record, Before, Read, Written}
-use Rattle.schedule.specs.Record.{headerRecord, stepRecord, headerInRange, recordLength, longest}
+use Rattle.schedule.specs.Types.{Step, Header, Record, Before, Read}
+use Rattle.schedule.specs.Record.{headerInRange, longest}
 use Rattle.schedule.specs.Reader.{isPlaced, inRangeAfter, readerAnswers}
-use Rattle.schedule.specs.Writer.{writerAnswers, writerLeaves}
 use Rattle.schedule.specs.Schedule.{Accepted, Refused, readSchedule, scheduleBytes}
-
--- One record, by what the reader and the writer promise
 
 -- a record that may come after this header, or as the header where there is none
 abbrev pub mayFollow : Before → Record → Bool
 mayFollow before r = isPlaced before (r .kind) && inRangeAfter before r
-
-abbrev pub answersFor : ℕ → ℕ → Record → Written
-answersFor room place r = writerAnswers room place (kindNumber (r .kind)) (r .first) (r .second)
-
-abbrev pub leavesFor : List ℕ → ℕ → Record → List ℕ
-leavesFor buffer place r = writerLeaves buffer place (kindNumber (r .kind)) (r .first) (r .second)
-
--- what the writer puts, the reader yields
-abbrev pub ReadAfterWrite : Type 0
-ReadAfterWrite =
-    (buffer : List ℕ) (place : ℕ) (before : Before) (r : Record) → mayFollow before r ≡ true → place ≤ longest → place + recordLength r ≤ length buffer
-    → (answersFor (length buffer) place r ≡ Written.Done (place + recordLength r))
-    × (readerAnswers (drop place (leavesFor buffer place r)) before ≡ Read.Record r (recordLength r))
-
--- what the reader yields, the writer puts: the bytes that were read
-abbrev pub WriteAfterRead : Type 0
-WriteAfterRead =
-    (bytes : List ℕ) (before : Before) (r : Record) (l : ℕ) → readerAnswers bytes before ≡ Read.Record r l
-    → (buffer : List ℕ) (place : ℕ) → place ≤ longest → place + l ≤ length buffer
-    → (answersFor (length buffer) place r ≡ Written.Done (place + l)) × (leavesFor buffer place r ≡ sets buffer place (take l bytes))
 
 -- A whole schedule
 
@@ -57,18 +32,6 @@ abbrev pub ReadInRange : Type 0
 ReadInRange =
     (bytes : List ℕ) (h : Header) (steps : List Step) → readSchedule bytes ≡ Accepted h steps
     → (headerInRange h ≡ true) × AllInRange (h .n) steps × (length bytes ≤ longest)
-
--- the writer puts these bytes, record by record, each at the place after the one before
-
-abbrev pub writtenInTurn : List ℕ → ℕ → List Record → List ℕ
-writtenInTurn buffer place [] = buffer
-writtenInTurn buffer place (r ∷ rs) = writtenInTurn (leavesFor buffer place r) (place + recordLength r) rs
-
-abbrev pub WrittenInTurn : Type 0
-WrittenInTurn =
-    (buffer : List ℕ) (h : Header) (steps : List Step) → headerInRange h ≡ true → AllInRange (h .n) steps
-    → length (scheduleBytes h steps) ≤ longest → length (scheduleBytes h steps) ≤ length buffer
-    → writtenInTurn buffer 0 (headerRecord h ∷ map stepRecord steps) ≡ sets buffer 0 (scheduleBytes h steps)
 
 -- the bytes of a schedule are bytes
 

@@ -5,7 +5,7 @@ use Prim.Native.Nat.{ℕ, zero, suc, _+_, _-_}
 use lib.Dec.{ltb}
 use lib.ListN.{length, drop}
 use Rattle.number.specs.Refusal.{emptyOrTooLong}
-use Rattle.schedule.specs.Types.{Step, Header, Record, Before, Read}
+use Rattle.schedule.specs.Types.{Step, Header, Before, Read}
 use Rattle.schedule.specs.Record.{headerRecord, recordHeader, stepRecord, recordStep, recordBytes, longest}
 use Rattle.schedule.specs.Reader.{readerAnswers}
 

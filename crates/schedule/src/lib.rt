@@ -1,6 +1,5 @@
-// A schedule as bytes: headers, records and their ranges. The reader takes one record from bytes, the writer puts one into a lent buffer.
+// A schedule as bytes: headers, records and their ranges. The reader takes one record from bytes.
 pub mod reader;
-pub mod writer;
 
 use kind::Kind;
 use kind::Step;

@@ -5,7 +5,7 @@ use native.Mathlib.Omega.{arith}
 use lib.ListN.{length, take}
 use lib.Seq.{length-take-le}
 use borrow.Author.Needs.{needs}
-use Rattle.schedule.proofs.Laws.{room-done}
+use Rattle.writer.proofs.Laws.{room-done}
 use Rattle.listing.specs.Listing.{listing}
 use Rattle.mark.proofs.mark.Statement.{statement}
 use Rattle.mark.proofs.mark.Tie as tie

@@ -4,7 +4,7 @@ use Prim.Native.Nat.{ℕ, suc, _+_}
 use native.Mathlib.Numerals.{add-one}
 use native.Mathlib.Omega.{arith}
 use lib.ListN.{length-set}
-use Rattle.schedule.proofs.Laws.{add-two}
+use Rattle.writer.proofs.Laws.{add-two}
 use borrow.Author.Needs.{needs}
 use Rattle.marker.proofs.layout.put_four.Statement.{statement}
 use Rattle.marker.proofs.layout.put_four.Tie as tie

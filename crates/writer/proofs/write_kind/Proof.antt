@@ -1,12 +1,12 @@
--- `schedule::writer::write_kind` meets its contract, case by case. Assumes nothing.
+-- `writer::write_kind` meets its contract, case by case. Assumes nothing.
 use native.Mathlib.Omega.{arith}
 use mathlib.Core.Path.{refl, sym, _∙_}
 use Rattle.kind.proofs.Numbers.{body-most}
-use Rattle.schedule.proofs.Laws.{writable-place}
+use Rattle.writer.proofs.Laws.{writable-place}
 use borrow.Author.Tests.{lt-ltb, le-ltb}
 use borrow.Author.Needs.{needs}
-use Rattle.schedule.proofs.writer.write_kind.Statement.{statement}
-use Rattle.schedule.proofs.writer.write_kind.Tie as tie
+use Rattle.writer.proofs.write_kind.Statement.{statement}
+use Rattle.writer.proofs.write_kind.Tie as tie
 
 pub write-kind-spec : {M : Type 1} → statement M
 write-kind-spec =

@@ -1,13 +1,13 @@
--- `schedule::writer::put` meets its contract, case by case. Assumes nothing.
+-- `writer::put` meets its contract, case by case. Assumes nothing.
 use mathlib.Core.Path.{_≡_}
 use native.Mathlib.Numerals.{add-one}
 use native.Mathlib.Omega.{arith}
 use lib.ListN.{length-set}
 use Rattle.kind.proofs.Numbers.{kind-most, body-most}
-use Rattle.schedule.proofs.Laws.{writable-bytes, add-two}
+use Rattle.writer.proofs.Laws.{writable-bytes, add-two}
 use borrow.Author.Needs.{needs}
-use Rattle.schedule.proofs.writer.put.Statement.{statement}
-use Rattle.schedule.proofs.writer.put.Tie as tie
+use Rattle.writer.proofs.put.Statement.{statement}
+use Rattle.writer.proofs.put.Tie as tie
 
 pub put-spec : {M : Type 1} → statement M
 put-spec =

@@ -1,9 +1,9 @@
--- `schedule::writer::write_record` meets its contract, case by case. Assumes nothing.
+-- `writer::write_record` meets its contract, case by case. Assumes nothing.
 use mathlib.Core.Path.{refl, sym, _∙_}
 use borrow.Author.Tests.{eq-eqb, ne-eqb}
 use borrow.Author.Needs.{needs}
-use Rattle.schedule.proofs.writer.write_record.Statement.{statement}
-use Rattle.schedule.proofs.writer.write_record.Tie as tie
+use Rattle.writer.proofs.write_record.Statement.{statement}
+use Rattle.writer.proofs.write_record.Tie as tie
 
 pub write-record-spec : {M : Type 1} → statement M
 write-record-spec =

@@ -1,18 +1,18 @@
 // The writer: one record at a given place of a lent buffer. It knows no n.
-use super::LONGEST;
-use super::Record;
 use kind::Kind;
 use number::OUT_OF_RANGE;
 use number::TOO_SHORT;
 use number::UNKNOWN_KIND;
+use schedule::LONGEST;
+use schedule::Record;
 use store::LOGS;
 ghost use mathlib.Core.Path.{_≡_};
 ghost use mathlib.Core.Bool.{true};
 ghost use Prim.Native.Nat.{_+_, _≤_};
 ghost use lib.ListN.{length};
 ghost use lib.Seq.{sets};
 ghost use Rattle.schedule.specs.Record.{recordLength, recordBytes};
-ghost use Rattle.schedule.specs.Writer.{isWritable, recordAnswer, leaves, writerAnswers, writerLeaves};
+ghost use Rattle.writer.specs.Writer.{isWritable, recordAnswer, leaves, writerAnswers, writerLeaves};
 
 // The place after the record, or a refusal's number with the place given or the length needed.
 pub enum Written {

@@ -1,8 +1,8 @@
--- `schedule::writer::writable` meets its contract, case by case. Assumes nothing.
+-- `writer::writable` meets its contract, case by case. Assumes nothing.
 use borrow.Author.Tests.{le-leb, lt-leb}
 use borrow.Author.Needs.{needs}
-use Rattle.schedule.proofs.writer.writable.Statement.{statement}
-use Rattle.schedule.proofs.writer.writable.Tie as tie
+use Rattle.writer.proofs.writable.Statement.{statement}
+use Rattle.writer.proofs.writable.Tie as tie
 
 pub writable-spec : {M : Type 1} → statement M
 writable-spec =

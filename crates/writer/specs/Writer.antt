@@ -8,8 +8,8 @@ use lib.Seq.{sets}
 use Rattle.number.specs.Refusal.{Handed, hands, accepted, unknownKind, outOfRange, tooShort}
 use Rattle.store.specs.Log.{places}
 use Rattle.kind.specs.Kind.{isKind}
-use Rattle.schedule.specs.Types.{Record, Written}
+use Rattle.writer.specs.Types.{Record, Written}
 use Rattle.schedule.specs.Record.{recordOf, recordInRange, recordLength, recordBytes, longest}
 
 -- participants and logs 1 to 8, parties 0 to 8
 abbrev pub isWritable : ℕ → Record → Bool

@@ -1,0 +1,58 @@
+-- Worked inputs of the writer. One theorem covers the table. Assumes nothing.
+use mathlib.Core.Path.{_≡_, refl}
+use mathlib.Core.Bool.{true}
+use mathlib.Core.List.{List, [], _∷_}
+use Prim.Native.Nat.{ℕ}
+use lib.ListN.{length}
+use Rattle.number.specs.Refusal.{Handed, hands, accepted, unknownKind, outOfRange, tooShort}
+use Rattle.writer.specs.Writer.{writerAnswers, writtenHands}
+use Rattle.schedule.proofs.Cases.{same, allHold}
+
+-- The writer: 0 and the place after the record, or the refusal's number with the place given or the length needed
+
+record WriteCase : Type 0 where
+  room : ℕ
+  place : ℕ
+  kind : ℕ
+  first : ℕ
+  second : ℕ
+  handed : Handed
+
+abbrev write : ℕ → ℕ → ℕ → ℕ → ℕ → ℕ → ℕ → WriteCase
+write room place kind a b k v =
+    record { room = room; place = place; kind = kind; first = a; second = b; handed = hands k v }
+
+abbrev writes : List WriteCase
+writes =
+    -- it knows no n: participants and logs 1 to 8, parties 0 to 8; a header by its own n
+    write 3 0 1 8 255 accepted 3
+    ∷ write 3 0 1 8 256 outOfRange 0
+    ∷ write 3 0 1 9 0 outOfRange 0
+    ∷ write 3 0 1 1 2 outOfRange 0
+    ∷ write 9 5 3 5 8 accepted 8
+    ∷ write 9 5 3 5 9 outOfRange 5
+    ∷ write 9 5 3 6 1 outOfRange 5
+    ∷ write 9 5 6 8 8 accepted 8
+    ∷ write 9 5 6 0 0 outOfRange 5
+    ∷ write 9 5 7 9 1 outOfRange 5
+    ∷ write 9 5 10 8 0 accepted 7
+    -- unused numbers are 0
+    ∷ write 9 5 2 0 0 accepted 6
+    ∷ write 9 5 2 1 0 outOfRange 5
+    ∷ write 9 5 2 0 1 outOfRange 5
+    ∷ write 9 5 8 1 1 outOfRange 5
+    -- places 0 to 32,768; an unknown kind comes before a place out of range
+    ∷ write 40000 32768 3 1 1 accepted 32771
+    ∷ write 40000 32769 3 1 1 outOfRange 32769
+    ∷ write 40000 32769 0 0 0 unknownKind 32769
+    ∷ write 40000 7 4294967295 0 0 unknownKind 7
+    -- too short after 2 and 5: the length needed
+    ∷ write 0 0 2 0 0 tooShort 1
+    ∷ write 2 0 1 1 1 tooShort 3
+    ∷ write 32768 32768 9 0 0 tooShort 32770
+    ∷ write 0 0 11 0 0 unknownKind 0
+    ∷ write 0 0 8 9 0 outOfRange 0
+    ∷ []
+
+writes-hold : allHold (λ c. same (writtenHands (writerAnswers (c .room) (c .place) (c .kind) (c .first) (c .second))) (c .handed)) writes ≡ true
+writes-hold = refl

@@ -1,0 +1,4 @@
+pub mod Laws
+pub mod Writing
+pub mod RoundTrip
+pub mod Cases
