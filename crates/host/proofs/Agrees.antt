@@ -13,11 +13,11 @@ use Rattle.rules.specs.Step.{participantAnswered, participantCalls, step}
 use Rattle.rules.specs.Run.{after}
 use Rattle.rules.proofs.Agreement.{Later, later, fresh-inv}
 use Rattle.rules.proofs.Reached.{reached-in-range}
+use Rattle.event.specs.Event.{eventNumber, detailNumber, answerNumber, eventOf, eventInRange}
+use Rattle.event.proofs.Numbers.{event-numbers}
 use Rattle.host.specs.Types.{LogPair, Call, Logged, Performed, Participant, Transition, Release, Step, Event}
-use Rattle.host.specs.Event.{eventNumber, detailNumber, answerNumber, eventOf, eventInRange}
 use Rattle.host.specs.Host.{answers, answered, onEvent, hostInRange, hostTransition, returned, left}
 use Rattle.host.specs.Agrees.{leads, HostAgrees, HostAgreesReached}
-use Rattle.host.proofs.Numbers.{event-numbers}
 
 -- the numbers of a participant and of an event are in range, and lead to what those lead to
 

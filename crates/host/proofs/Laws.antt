@@ -13,8 +13,8 @@ use Rattle.rules.proofs.Cases.{crash-cases, restart-cases}
 use Rattle.rules.proofs.Ranges.{ParticipantInRange, participant-held, Guard, Guarded, pending-guarded, ToInRange, request-range, decision-range, timeout-range, answer-range}
 use Rattle.kind.specs.Step.{numberInRange}
 use Rattle.kind.proofs.Numbers.{between}
+use Rattle.event.specs.Event.{eventOf, isEvent, isWritten, eventInRange}
 use Rattle.host.specs.Types.{Call, Sent, Participant, Transition, NotDue, To, Event}
-use Rattle.host.specs.Event.{eventOf, isEvent, isWritten, eventInRange}
 use Rattle.host.specs.Host.{answers, onEvent, hostInRange, hostTransition, HeardFits}
 
 -- a message's number fits a byte

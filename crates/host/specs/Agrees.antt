@@ -11,8 +11,8 @@ use Rattle.participant.specs.Participant
 use Rattle.rules.specs.State.{participantOf, logOf, inFlight, fresh}
 use Rattle.rules.specs.Step.{drop, participantGoes, participantAnswered, step}
 use Rattle.rules.specs.Run.{after}
+use Rattle.event.specs.Event.{eventNumber, detailNumber, answerNumber, eventInRange}
 use Rattle.host.specs.Types.{Logged, Performed, Message, Decision, Transition, Release, Step, Event}
-use Rattle.host.specs.Event.{eventNumber, detailNumber, answerNumber, eventInRange}
 use Rattle.host.specs.Host.{onEvent, returned, left, hostReturns, hostLeaves}
 
 -- what an event leads participant i to

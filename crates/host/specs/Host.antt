@@ -10,8 +10,8 @@ use Rattle.store.specs.Log.{places}
 use Rattle.message.specs.Message.{sentNumber}
 use Rattle.participant.specs.Participant
 use Rattle.kind.specs.Step.{numberInRange}
+use Rattle.event.specs.Event.{eventOf, numbersInRange}
 use Rattle.host.specs.Types.{LogRecord, Call, Sent, Participant, Transition, NotDue, To, Event}
-use Rattle.host.specs.Event.{eventOf, numbersInRange}
 
 -- An answer counts only where its call is pending; `own` and `j` are places
 abbrev pub answers : Call → Transition → Transition

@@ -1,4 +1,3 @@
 pub mod Types
-pub mod Event
 pub mod Host
 pub mod Agrees

@@ -1,4 +1,4 @@
--- The host's events, and the types of the layers below that the entry names.
+-- The types of the layers below that the entry names.
 pub use Rattle.store.specs.declared.LogRecord.{LogRecord}
 pub use Rattle.store.specs.declared.LogPair.{LogPair}
 pub use Rattle.store.specs.declared.Call.{Call}
@@ -12,4 +12,4 @@ pub use Rattle.participant.specs.declared.Transition.{Transition}
 pub use Rattle.participant.specs.declared.Transition.the-variants.{NotDue, To}
 pub use Rattle.kind.specs.declared.Step.{Step}
 pub use Rattle.rules.specs.declared.Release.{Release}
-pub use Rattle.host.specs.declared.Event.{Event}
+pub use Rattle.event.specs.declared.Event.{Event}

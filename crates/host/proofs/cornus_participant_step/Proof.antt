@@ -2,7 +2,6 @@
 use Rattle.host.proofs.Laws.{given, heard-fits}
 use native.Mathlib.Omega.{arith}
 use mathlib.Core.Path.{refl, sym, _∙_}
-use mathlib.Core.Path.{sym, _∙_}
 use borrow.Author.Needs.{needs}
 use Rattle.host.proofs.cornus_participant_step.Statement.{statement}
 use Rattle.host.proofs.cornus_participant_step.Tie as tie

@@ -1,7 +1,7 @@
--- `host::decision_of` meets its contract, case by case. Assumes nothing.
+-- `event::decision_of` meets its contract, case by case. Assumes nothing.
 use borrow.Author.Tests.{ne-eqb}
-use Rattle.host.proofs.decision_of.Statement.{statement}
-use Rattle.host.proofs.decision_of.Tie as tie
+use Rattle.event.proofs.decision_of.Statement.{statement}
+use Rattle.event.proofs.decision_of.Tie as tie
 
 pub decision-of-spec : {M : Type 1} → statement M
 decision-of-spec =

@@ -1,8 +1,8 @@
--- `host::Event::of` meets its contract, case by case. Assumes nothing.
+-- `event::Event::of` meets its contract, case by case. Assumes nothing.
 use borrow.Author.Tests.{ne-eqb}
 use borrow.Author.Needs.{needs}
-use Rattle.host.proofs.Event.of.Statement.{statement}
-use Rattle.host.proofs.Event.of.Tie as tie
+use Rattle.event.proofs.Event.of.Statement.{statement}
+use Rattle.event.proofs.Event.of.Tie as tie
 
 pub of-spec : {M : Type 1} → statement M
 of-spec =

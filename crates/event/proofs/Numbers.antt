@@ -4,8 +4,8 @@ use mathlib.Core.Bool.{true, false}
 use Rattle.number.specs.Numbering.{Inverse3}
 use Rattle.number.proofs.Laws.{inverse3}
 use Rattle.store.proofs.Numbers.{record-numbers}
-use Rattle.host.specs.Types.{Decision, Event}
-use Rattle.host.specs.Event.{eventNumber, detailNumber, answerNumber, eventOf}
+use Rattle.event.specs.Types.{Decision, Event}
+use Rattle.event.specs.Event.{eventNumber, detailNumber, answerNumber, eventOf}
 
 event-back : (e : Event) → eventOf (eventNumber e) (detailNumber e) (answerNumber e) ≡ e
 event-back (Event.Request true) = refl

@@ -6,7 +6,7 @@ use lib.Dec.{eqb}
 use Rattle.number.specs.Numbering.{numbered, areNumbers3}
 use Rattle.store.specs.Log.{recordNumber, recordOf}
 use Rattle.kind.specs.Step.{numberInRange}
-use Rattle.host.specs.Types.{LogRecord, Decision, Event}
+use Rattle.event.specs.Types.{LogRecord, Decision, Event}
 
 -- Events: 1 request, 2 decision, 3 timeout, 4 crash, 5 restart, 6 answer
 abbrev pub eventNumber : Event → ℕ

@@ -1,8 +1,8 @@
--- `host::Event::in_range` meets its contract, case by case. Assumes nothing.
+-- `event::Event::in_range` meets its contract, case by case. Assumes nothing.
 use mathlib.Core.Path.{sym, _∙_}
 use borrow.Author.Needs.{needs}
-use Rattle.host.proofs.Event.in_range.Statement.{statement}
-use Rattle.host.proofs.Event.in_range.Tie as tie
+use Rattle.event.proofs.Event.in_range.Statement.{statement}
+use Rattle.event.proofs.Event.in_range.Tie as tie
 
 pub in-range-spec : {M : Type 1} → statement M
 in-range-spec =

@@ -1,9 +1,9 @@
--- `host::Event::known` meets its contract, case by case. Assumes nothing.
+-- `event::Event::known` meets its contract, case by case. Assumes nothing.
 use mathlib.Core.Path.{sym, _∙_}
 use borrow.Author.Tests.{eq-eqb, ne-eqb}
 use borrow.Author.Needs.{needs}
-use Rattle.host.proofs.Event.known.Statement.{statement}
-use Rattle.host.proofs.Event.known.Tie as tie
+use Rattle.event.proofs.Event.known.Statement.{statement}
+use Rattle.event.proofs.Event.known.Tie as tie
 
 pub known-spec : {M : Type 1} → statement M
 known-spec =
