@@ -13,7 +13,7 @@ use Rattle.text.proofs.Laws.{decimal-length, refusal-length}
 use Rattle.schedule.specs.Schedule.{Reading, Accepted, Refused, readSchedule}
 use Rattle.schedule.proofs.Reading.{steps-few}
 use Rattle.schedule.proofs.RoundTrip.{bytes-kept, read-in-range}
-use Rattle.marker.specs.Report.{tailLength}
+use Rattle.layout.specs.Tail.{tailLength}
 use Rattle.marker.specs.Run.{readingAnswer, runAnswers, runLeaves}
 use Rattle.marker.proofs.Left.{ran, report-left}
 use Rattle.frame.specs.Types.{Step, Header, Written, Frame}

@@ -14,7 +14,7 @@ use Rattle.rules.proofs.Counts.{calls-counted}
 use Rattle.tail.specs.Tail.{tabulate, fieldsOf, tailOf}
 use Rattle.passes.specs.Pass.{freshOf}
 use Rattle.marker.specs.Types.{Step, Header, Release}
-use Rattle.marker.specs.Report.{fieldBytes, countBytes, tailBytes}
+use Rattle.layout.specs.Tail.{fieldBytes, countBytes, tailBytes}
 use Rattle.marker.specs.Demand.{CountsHold}
 use Rattle.marker.proofs.TailBytes.{five-masks, nine-counts, participants-length}
 

@@ -14,7 +14,8 @@ use Rattle.tail.specs.Tail.{tailOf}
 use Rattle.passes.specs.Pass.{freshOf, stepBytes}
 use Rattle.passes.proofs.Passed.{bytes-length}
 use Rattle.marker.specs.Types.{Step, Header, Written}
-use Rattle.marker.specs.Report.{tailBytes, tailLength, reportBytes}
+use Rattle.layout.specs.Tail.{tailBytes, tailLength}
+use Rattle.marker.specs.Report.{reportBytes}
 use Rattle.marker.specs.Run.{readingAnswer, readingLeaves, runAnswers, runLeaves}
 use Rattle.marker.specs.Demand.{stepsLeft, tailLeft}
 use Rattle.marker.proofs.TailBytes.{tail-length}

@@ -15,7 +15,8 @@ use Rattle.tail.specs.Tail.{tailOf}
 use Rattle.passes.specs.Pass.{validated, stepsOf, freshOf, stepBytes}
 use Rattle.passes.proofs.Passed.{passed, bytes-length}
 use Rattle.marker.specs.Types.{Header, Written, Validated}
-use Rattle.marker.specs.Report.{tailBytes, tailLength, reportBytes}
+use Rattle.layout.specs.Tail.{tailBytes, tailLength}
+use Rattle.marker.specs.Report.{reportBytes}
 use Rattle.marker.specs.Run.{readingAnswer, readingLeaves, runAnswers, runLeaves}
 
 -- a refusal of the first pass is the run's

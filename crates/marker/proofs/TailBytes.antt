@@ -33,8 +33,8 @@ use Rattle.tail.proofs.Follows.{message-tested}
 use Rattle.marker.specs.Types.{Step, Header, Release, ParticipantFields, Tail}
 use Rattle.text.specs.Put.{each}
 use Rattle.passes.specs.Pass.{freshOf}
-use Rattle.marker.specs.Report.{fieldBytes, countBytes, tailBytes, tailLength}
-use Rattle.marker.specs.Low.{lowBytes, lowByte, lowFields, lowTail}
+use Rattle.layout.specs.Tail.{fieldBytes, countBytes, tailBytes, tailLength}
+use Rattle.layout.specs.Low.{lowBytes, lowByte, lowFields, lowTail}
 
 -- Low eight bits
 
@@ -140,14 +140,6 @@ module _ (r : Release) (five : length (r .messages) ≡ types) (nine : length (r
         length-append (r .messages) (each fieldBytes ps ++ each countBytes (r .calls)),
         length-append (each fieldBytes ps) (each countBytes (r .calls)),
       )
-
-pub low-length : (t : Tail)
-    → length (lowTail t) ≡ 4 + (length (each lowByte (t .messages)) + (length (each lowFields (t .participants)) + length (each countBytes (t .calls))))
-low-length t =
-    let ms : List ℕ = each lowByte (t .messages) in
-    let ps : List ℕ = each lowFields (t .participants) in
-    let cs : List ℕ = each countBytes (t .calls) in
-    omega (arith, length-append ms (ps ++ cs), length-append ps cs)
 
 -- A release that a run reaches
 

@@ -16,7 +16,7 @@ use Rattle.rules.specs.Run.{after, callsMade}
 use Rattle.rules.specs.Demand.{EveryYes, SomeAbort, Up, AllUndisturbed, Decides, AllCalm}
 use Rattle.passes.specs.Pass.{freshOf, stepBytes}
 use Rattle.marker.specs.Types.{Step, Header, Written, Outcome}
-use Rattle.marker.specs.Report.{tailLength}
+use Rattle.layout.specs.Tail.{tailLength}
 use Rattle.marker.specs.Run.{runAnswers, runLeaves}
 
 -- A decision is reported by a step whose byte says commit or abort

@@ -1,6 +1,5 @@
 pub mod Types
 pub mod Report
 pub mod Run
-pub mod Low
 pub mod Demand
 pub mod Cases

@@ -9,7 +9,8 @@ use lib.Seq.{sets}
 use Rattle.schedule.specs.Schedule.{Reading, Accepted, Refused, readSchedule}
 use Rattle.writer.specs.Writer.{roomAnswer}
 use Rattle.marker.specs.Types.{Written}
-use Rattle.marker.specs.Report.{tailLength, reportBytes}
+use Rattle.layout.specs.Tail.{tailLength}
+use Rattle.marker.specs.Report.{reportBytes}
 
 -- the length written; or the refusal's number with its place, or with the length needed. What each case hands over is `writtenHands`
 abbrev pub readingAnswer : ℕ → Reading → Written

@@ -1,6 +1,4 @@
 // The marker: a schedule in, its report out.
-mod layout;
-
 use layout::put_tail;
 use number::TOO_SHORT;
 use passes::Validated;

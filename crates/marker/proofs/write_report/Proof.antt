@@ -15,8 +15,9 @@ use Rattle.tail.specs.Tail.{tailOf}
 use Rattle.passes.specs.Pass.{stepsOf, freshOf}
 use Rattle.passes.proofs.Passed.{passed}
 use Rattle.marker.specs.Types.{Written}
-use Rattle.marker.specs.Report.{tailBytes, tailLength, reportBytes}
-use Rattle.marker.specs.Low.{lowTail}
+use Rattle.layout.specs.Tail.{tailBytes, tailLength}
+use Rattle.marker.specs.Report.{reportBytes}
+use Rattle.layout.specs.Low.{lowTail}
 use Rattle.marker.proofs.TailBytes.{tail-length, tail-low}
 use Rattle.marker.proofs.Ran.{answered, left, whole}
 use Rattle.marker.proofs.write_report.Statement.{statement}

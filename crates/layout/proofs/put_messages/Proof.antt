@@ -1,14 +1,14 @@
--- `marker::layout::put_messages` meets its contract: what is left to put, after what was put, is the whole. Assumes nothing.
+-- `layout::put_messages` meets its contract: what is left to put, after what was put, is the whole. Assumes nothing.
 use mathlib.Core.Path.{_≡_}
 use Prim.Native.Nat.{_-_, _≤_}
 use native.Mathlib.Omega.{arith}
 use lib.ListN.{length}
 use borrow.Author.Needs.{needs}
 use Rattle.rules.specs.State.{types}
-use Rattle.marker.specs.Low.{lowByte}
+use Rattle.layout.specs.Low.{lowByte}
 use Rattle.text.proofs.Putting.{Putting, put-none, put-room, put-next, put-all}
-use Rattle.marker.proofs.layout.put_messages.Statement.{statement}
-use Rattle.marker.proofs.layout.put_messages.Tie as tie
+use Rattle.layout.proofs.put_messages.Statement.{statement}
+use Rattle.layout.proofs.put_messages.Tie as tie
 
 abbrev Inv-loop : tie.InvT-loop
 Inv-loop report₀ place messages at₀ i₀ report at i = (i ≤ types) × (length messages ≡ types) × Putting lowByte messages report₀ place report at i

@@ -1,4 +1,4 @@
--- `marker::layout::put_four` meets its contract, case by case. Assumes nothing.
+-- `layout::put_four` meets its contract, case by case. Assumes nothing.
 use mathlib.Core.Path.{_≡_, refl}
 use Prim.Native.Nat.{ℕ, suc, _+_}
 use native.Mathlib.Numerals.{add-one}
@@ -6,8 +6,8 @@ use native.Mathlib.Omega.{arith}
 use lib.ListN.{length-set}
 use Rattle.writer.proofs.Laws.{add-two}
 use borrow.Author.Needs.{needs}
-use Rattle.marker.proofs.layout.put_four.Statement.{statement}
-use Rattle.marker.proofs.layout.put_four.Tie as tie
+use Rattle.layout.proofs.put_four.Statement.{statement}
+use Rattle.layout.proofs.put_four.Tie as tie
 
 add-three : (i : ℕ) → i + 3 ≡ suc (suc (suc i))
 add-three i = omega arith

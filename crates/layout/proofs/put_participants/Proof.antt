@@ -1,14 +1,14 @@
--- `marker::layout::put_participants` meets its contract: what is left to put, after what was put, is the whole. Assumes nothing.
+-- `layout::put_participants` meets its contract: what is left to put, after what was put, is the whole. Assumes nothing.
 use mathlib.Core.Path.{_≡_}
 use Prim.Native.Nat.{_-_, _≤_}
 use native.Mathlib.Omega.{arith}
 use lib.ListN.{length}
 use borrow.Author.Needs.{needs}
 use Rattle.store.specs.Log.{places}
-use Rattle.marker.specs.Low.{lowFields}
+use Rattle.layout.specs.Low.{lowFields}
 use Rattle.text.proofs.Putting.{Putting, put-none, put-room, put-next, put-all}
-use Rattle.marker.proofs.layout.put_participants.Statement.{statement}
-use Rattle.marker.proofs.layout.put_participants.Tie as tie
+use Rattle.layout.proofs.put_participants.Statement.{statement}
+use Rattle.layout.proofs.put_participants.Tie as tie
 
 abbrev Inv-loop : tie.InvT-loop
 Inv-loop report₀ place participants at₀ i₀ report at i = (i ≤ places) × (length participants ≡ places) × Putting lowFields participants report₀ place report at i

@@ -1,14 +1,14 @@
--- `marker::layout::put_calls` meets its contract: what is left to put, after what was put, is the whole. Assumes nothing.
+-- `layout::put_calls` meets its contract: what is left to put, after what was put, is the whole. Assumes nothing.
 use mathlib.Core.Path.{_≡_}
 use Prim.Native.Nat.{_-_, _≤_, suc}
 use native.Mathlib.Omega.{arith}
 use lib.ListN.{length}
 use borrow.Author.Needs.{needs}
 use Rattle.store.specs.Log.{places}
-use Rattle.marker.specs.Report.{countBytes}
+use Rattle.layout.specs.Tail.{countBytes}
 use Rattle.text.proofs.Putting.{Putting, put-none, put-room, put-next, put-all}
-use Rattle.marker.proofs.layout.put_calls.Statement.{statement}
-use Rattle.marker.proofs.layout.put_calls.Tie as tie
+use Rattle.layout.proofs.put_calls.Statement.{statement}
+use Rattle.layout.proofs.put_calls.Tie as tie
 
 abbrev Inv-loop : tie.InvT-loop
 Inv-loop report₀ place calls at₀ p₀ report at p = (p ≤ suc places) × (length calls ≡ suc places) × Putting countBytes calls report₀ place report at p

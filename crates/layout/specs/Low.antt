@@ -2,8 +2,8 @@
 use mathlib.Core.List.{List, [], _∷_, _++_, map}
 use Prim.Native.Nat.{ℕ, _%_}
 use Rattle.text.specs.Put.{each}
-use Rattle.marker.specs.Types.{ParticipantFields, Tail}
-use Rattle.marker.specs.Report.{fieldBytes, countBytes}
+use Rattle.layout.specs.Types.{ParticipantFields, Tail}
+use Rattle.layout.specs.Tail.{fieldBytes, countBytes}
 
 abbrev pub lowBytes : List ℕ → List ℕ
 lowBytes xs = map (λ x. x % 256) xs

@@ -1,11 +1,11 @@
--- `marker::layout::put_count` meets its contract, case by case. Assumes nothing.
+-- `layout::put_count` meets its contract, case by case. Assumes nothing.
 use mathlib.Core.Path.{refl}
 use native.Mathlib.Numerals.{add-one}
 use native.Mathlib.Omega.{arith}
 use lib.ListN.{length-set}
 use borrow.Author.Needs.{needs}
-use Rattle.marker.proofs.layout.put_count.Statement.{statement}
-use Rattle.marker.proofs.layout.put_count.Tie as tie
+use Rattle.layout.proofs.put_count.Statement.{statement}
+use Rattle.layout.proofs.put_count.Tie as tie
 
 pub put-count-spec : {M : Type 1} → statement M
 put-count-spec =

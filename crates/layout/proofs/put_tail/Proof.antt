@@ -1,10 +1,10 @@
--- `marker::layout::put_tail` meets its contract: its four parts follow one another. Assumes nothing.
+-- `layout::put_tail` meets its contract: its four parts follow one another. Assumes nothing.
 use native.Mathlib.Omega.{arith}
 use borrow.Author.Needs.{needs}
 use Rattle.text.proofs.Putting.{put-then}
-use Rattle.marker.proofs.TailBytes.{low-length}
-use Rattle.marker.proofs.layout.put_tail.Statement.{statement}
-use Rattle.marker.proofs.layout.put_tail.Tie as tie
+use Rattle.layout.proofs.Laws.{low-length}
+use Rattle.layout.proofs.put_tail.Statement.{statement}
+use Rattle.layout.proofs.put_tail.Tie as tie
 
 pub put-tail-spec : {M : Type 1} → statement M
 put-tail-spec =
