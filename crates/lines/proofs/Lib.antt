@@ -1,3 +1,3 @@
 pub mod Laws
-pub mod Lining
+pub mod LineLaws
 pub mod Front

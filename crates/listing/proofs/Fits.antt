@@ -18,7 +18,7 @@ use Rattle.passes.specs.Pass.{freshOf, stepBytes}
 use Rattle.passes.proofs.Passed.{bytes-length}
 use Rattle.listing.specs.Types.{Step, Header}
 use Rattle.listing.specs.Listing.{stepLines, endLines, readingText, longestText, ListingFits}
-use Rattle.lines.proofs.Lining.{lines-few}
+use Rattle.lines.proofs.LineLaws.{lines-few}
 use Rattle.listing.proofs.Laws.{lines-outcomes, end-few}
 use Rattle.listing.proofs.Listed.{run-calls, run-n}
 

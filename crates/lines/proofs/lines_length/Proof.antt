@@ -5,7 +5,7 @@ use native.Mathlib.Omega.{arith}
 use lib.ListN.{length, getD}
 use borrow.Author.Needs.{needs}
 use Rattle.lines.specs.Lines.{byteLines}
-use Rattle.lines.proofs.Lining.{linesFrom, byte-few, number-few, lines-end, line-long}
+use Rattle.lines.proofs.LineLaws.{linesFrom, byte-few, number-few, lines-end, line-long}
 use Rattle.lines.proofs.lines_length.Statement.{statement}
 use Rattle.lines.proofs.lines_length.Tie as tie
 

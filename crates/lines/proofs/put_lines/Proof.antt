@@ -4,12 +4,12 @@ use native.Mathlib.Omega.{arith}
 use lib.ListN.{length}
 use borrow.Author.Needs.{needs}
 use Rattle.text.proofs.Putting.{put-then}
-use Rattle.lines.proofs.Lining.{Lining, line-long, line-none, line-next, line-all}
+use Rattle.lines.proofs.LineLaws.{LinesLeft, line-long, line-none, line-next, line-all}
 use Rattle.lines.proofs.put_lines.Statement.{statement}
 use Rattle.lines.proofs.put_lines.Tie as tie
 
 abbrev Inv-loop : tie.InvT-loop
-Inv-loop text₀ bytes at₀ i₀ text at i = (i ≤ length bytes) × Lining bytes text₀ text at i
+Inv-loop text₀ bytes at₀ i₀ text at i = (i ≤ length bytes) × LinesLeft bytes text₀ text at i
 
 abbrev μ-loop : tie.MeasureT-loop
 μ-loop text₀ bytes at₀ i₀ text at i = length bytes - i

@@ -10,7 +10,7 @@ use Rattle.text.specs.Text.{refusalLine}
 use Rattle.listing.specs.Listing.{}
 use Rattle.listing.specs.Bytes.{textAnswer, textLeft}
 use Rattle.listing.proofs.Laws.{}
-use Rattle.lines.proofs.Lining.{no-lines}
+use Rattle.lines.proofs.LineLaws.{no-lines}
 use Rattle.listing.proofs.Listed.{put-front}
 use Rattle.listing.proofs.list_refusal.Statement.{statement}
 use Rattle.listing.proofs.list_refusal.Tie as tie

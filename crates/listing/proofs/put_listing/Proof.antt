@@ -6,7 +6,7 @@ use lib.ListN.{length, length-append}
 use borrow.Author.Needs.{needs}
 use Rattle.text.proofs.Putting.{put-then}
 use Rattle.lines.specs.Lines.{byteLines}
-use Rattle.lines.proofs.Lining.{lines-few}
+use Rattle.lines.proofs.LineLaws.{lines-few}
 use Rattle.listing.proofs.Listed.{text-short, text-fits}
 use Rattle.listing.proofs.put_listing.Statement.{statement}
 use Rattle.listing.proofs.put_listing.Tie as tie

@@ -73,19 +73,19 @@ module _ (bytes : List ℕ) (i : ℕ) where
         ∙ ap (λ l. l + length (linesFrom bytes (i + 1))) (length-append (decimal (i + 1)) (byteText (getD bytes i 0)))
 
 -- before byte i, with `at` the place after the lines before: what is left gives what the whole gives
-pub record Lining (bytes text₀ text : List ℕ) (at i : ℕ) : Type 0 where
+pub record LinesLeft (bytes text₀ text : List ℕ) (at i : ℕ) : Type 0 where
   pub same : length text ≡ length text₀
   pub end : at + length (linesFrom bytes i) ≡ length (byteLines 1 bytes)
   pub rest : sets text at (linesFrom bytes i) ≡ sets text₀ 0 (byteLines 1 bytes)
 
 module _ (bytes text₀ : List ℕ) where
-  pub line-none : Lining bytes text₀ text₀ 0 0
+  pub line-none : LinesLeft bytes text₀ text₀ 0 0
   line-none = record { same = refl; end = omega arith; rest = refl }
 
-  module _ (text : List ℕ) (at i : ℕ) (g : Lining bytes text₀ text at i) where
+  module _ (text : List ℕ) (at i : ℕ) (g : LinesLeft bytes text₀ text at i) where
     -- one turn puts a line
     pub line-next : i < length bytes → {next : ℕ} {after : List ℕ} → Put text at (decimal (i + 1) ++ byteText (getD bytes i 0)) next after
-        → Lining bytes text₀ after next (i + 1)
+        → LinesLeft bytes text₀ after next (i + 1)
     line-next some {next} {after} p =
         let line : List ℕ = decimal (i + 1) ++ byteText (getD bytes i 0) in
         rw (p .ends, p .leaves) (record {
