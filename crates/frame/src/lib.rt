@@ -10,6 +10,7 @@ ghost use mathlib.Core.Path.{_≡_};
 ghost use Prim.Native.Nat.{_+_, _≤_, _<_};
 ghost use lib.ListN.{length};
 ghost use Rattle.text.specs.Put.{Put};
+ghost use Rattle.marker.specs.Run.{runLeaves};
 ghost use Rattle.frame.specs.Frame.{frameOf, lineOf, longestReport, longestLine};
 
 // No report has more bytes than this, and no line.
@@ -44,10 +45,11 @@ pub fn first_frame(bytes: &[u8]) -> Frame
     }
 }
 
-// The line of a schedule, at a place of the text. The report is room to work in.
+// The line of a schedule, at a place of the text. The report is left as a run leaves it.
 pub fn put_line(schedule: &[u8], report: &mut [u8], text: &mut [u8], place: usize) -> usize
     requires { ⌜ (longestReport ≤ length (now report)) × (place + longestLine ≤ length (now text)) ⌝ }
-    ensures { λ end. ⌜ Put (now (text .entry)) place (lineOf (now (schedule .entry))) end (now (text .exit)) × (end ≤ length (now (text .entry))) ⌝ }
+    ensures { λ end. ⌜ Put (now (text .entry)) place (lineOf (now (schedule .entry))) end (now (text .exit)) × (end ≤ length (now (text .entry)))
+        × (now (report .exit) ≡ runLeaves (now (report .entry)) (now (schedule .entry))) ⌝ }
 {
     let ran = run(schedule, report);
     match ran {

@@ -8,8 +8,8 @@ use frame::put_line;
 use libc::STDIN_FILENO;
 use libc::STDOUT_FILENO;
 ghost use mathlib.Core.Path.{_≡_};
-ghost use Prim.Native.Nat.{_+_, _≤_};
-ghost use lib.ListN.{length};
+ghost use Prim.Native.Nat.{_+_, _-_, _≤_};
+ghost use lib.ListN.{length, take, drop};
 ghost use Rattle.frame.specs.Frame.{longestReport, longestLine};
 
 // Room for two frames of the greatest length, 65,535 bytes after the two that say so, and for two lines.
@@ -65,7 +65,7 @@ fn mark_frames(input: &[u8], report: &mut [u8], output: &mut [u8]) -> Marked
 // Moves what was not marked to the front. Answers how much that is.
 fn keep_rest(input: &mut [u8], from: usize, end: usize) -> usize
     requires { ⌜ (from ≤ end) × (end ≤ length (now input)) ⌝ }
-    ensures { λ kept. ⌜ kept ≤ length (now (input .entry)) ⌝ }
+    ensures { λ kept. ⌜ (kept ≡ end - from) × (take kept (now (input .exit)) ≡ take kept (drop from (now (input .entry)))) ⌝ }
 {
     let kept = end - from;
     for i in 0..kept {
