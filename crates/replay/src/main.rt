@@ -10,7 +10,8 @@ use libc::STDOUT_FILENO;
 ghost use mathlib.Core.Path.{_≡_};
 ghost use Prim.Native.Nat.{_+_, _-_, _≤_};
 ghost use lib.ListN.{length, take, drop};
-ghost use Rattle.frame.specs.Frame.{longestReport, longestLine};
+ghost use Rattle.frame.specs.Frame.{frameOf, longestReport, longestLine};
+ghost use Rattle.frame.specs.declared.Frame.{Frame};
 
 // Room for two frames of the greatest length, 65,535 bytes after the two that say so, and for two lines.
 const INPUT: usize = 131074;
@@ -36,10 +37,11 @@ fn make_room(output: &[u8], filled: usize) -> usize
     }
 }
 
-// Marks every frame that is whole.
+// Marks every frame that is whole: what is left begins with one that is not.
 fn mark_frames(input: &[u8], report: &mut [u8], output: &mut [u8]) -> Marked
     requires { ⌜ (longestReport ≤ length (now report)) × (longestLine ≤ length (now output)) ⌝ }
-    ensures { λ m. ⌜ (m .used ≤ length (now (input .entry))) × (m .filled ≤ length (now (output .entry))) ⌝ }
+    ensures { λ m. ⌜ (m .used ≤ length (now (input .entry))) × (m .filled ≤ length (now (output .entry)))
+        × (frameOf (drop (m .used) (now (input .entry))) ≡ Frame.Incomplete) ⌝ }
 {
     let mut at: usize = 0;
     let mut filled: usize = 0;

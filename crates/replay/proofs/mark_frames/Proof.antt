@@ -2,7 +2,7 @@
 use mathlib.Core.Path.{_≡_, refl, sym, ap, _∙_}
 use Prim.Native.Nat.{_+_, _-_, _≤_}
 use native.Mathlib.Omega.{arith}
-use lib.ListN.{length, drop, length-drop}
+use lib.ListN.{length, drop, length-drop, drop-of-length-le}
 use borrow.Author.Needs.{needs}
 use Rattle.passes.proofs.Reading.{tail-part}
 use Rattle.frame.specs.Frame.{frameOf}
@@ -17,13 +17,16 @@ Inv-loop input report₀ output₀ at₀ filled₀ report output at filled =
 abbrev μ-loop : tie.MeasureT-loop
 μ-loop input report₀ output₀ at₀ filled₀ report output at filled = length input - at
 
+-- the frame that was looked for stands at the front of what is left
+found : (c : tie.After-first-frame Inv-loop μ-loop) → c .first-frame .result ≡ frameOf (drop (c .before .before .before .loop .at) (c .before .before .before .before .before .before .before .args .input .now))
+found c = c .first-frame .ensures ∙ ap frameOf (tail-part (c .before .before .before .before .before .before .before .args .input .now) (c .before .before .before .loop .at))
+
 -- a whole frame lies within the input
 whole : (c : tie.After-size Inv-loop μ-loop) → c .before .before .before .before .before .loop .at + 2 + c .size .given .0 .0 ≤ length (c .before .before .before .before .before .before .before .before .before .args .input .now)
 whole c =
     let at = c .before .before .before .before .before .loop .at in
     let input = c .before .before .before .before .before .before .before .before .before .args .input .now in
-    let found = c .before .before .first-frame .ensures ∙ ap frameOf (tail-part input at) in
-    omega (arith, frame-whole (drop at input) (c .size .given .0 .0) (sym found ∙ c .size .given .1), length-drop at input)
+    omega (arith, frame-whole (drop at input) (c .size .given .0 .0) (sym (found (c .before .before)) ∙ c .size .given .1), length-drop at input)
 
 pub mark-frames-spec : {M : Type 1} → statement M
 mark-frames-spec =
@@ -40,7 +43,7 @@ mark-frames-spec =
     (λ c. search needs)
     (λ c. c .before .before .before .before .before .loop .inv .2)
     (λ c. c .before .before .before .before .before .loop .inv .3)
-    (λ c. let inv = c .before .before .before .before .before .loop .inv in (inv .0, omega (arith, inv .1, inv .3)))
+    (λ c. let inv = c .before .before .before .before .before .loop .inv in (inv .0, omega (arith, inv .1, inv .3), sym (found (c .before .before)) ∙ c .enum-told .given .1))
     (λ c. omega (arith, whole (c .before)))
     (λ c. omega (arith, whole (c .before)))
     (λ c κs. let inv = c .before .before .before .before .before .before .before .loop .inv in (inv .1, omega (arith, inv .3, c .before .before .before .before .before .before .before .before .before .before .before .pre .1)))
@@ -52,4 +55,4 @@ mark-frames-spec =
     (λ c. let inv = c .before .before .before .before .before .before .before .before .before .before .before .before .before .before .before .before .loop .inv in let put = c .before .before .before .before .put-line in (whole (c .before .before .before .before .before .before .before .before .before .before .before), omega (arith, put .ensures .1, put .kept), put .kept .1 .0 ∙ inv .2, put .kept .1 .1 .0 ∙ inv .3))
     (λ c. c .before .loop .inv .2)
     (λ c. c .before .loop .inv .3)
-    (λ c. let inv = c .before .loop .inv in (inv .0, omega (arith, inv .1, inv .3))))
+    (λ c. let inv = c .before .loop .inv in (inv .0, omega (arith, inv .1, inv .3), ap frameOf (drop-of-length-le (c .before .before .before .before .before .args .input .now) (c .loop-test .left)))))
