@@ -1,0 +1,32 @@
+-- `export::state::calls` meets its contract: the loop fills the table, place by place. Assumes nothing.
+use mathlib.Core.Path.{_≡_, refl}
+use Prim.Native.Nat.{suc, _-_, _≤_}
+use native.Mathlib.Omega.{arith}
+use lib.ListN.{length}
+use borrow.Author.Needs.{needs}
+use Rattle.store.specs.Log.{places}
+use Rattle.tail.proofs.Tabulate.{upTo, upTo-next, upTo-done}
+use Rattle.export.specs.State.{countAt}
+use Rattle.export.proofs.state.calls.Statement.{statement}
+use Rattle.export.proofs.state.calls.Tie as tie
+
+abbrev Inv-loop : tie.InvT-loop
+Inv-loop state l₀ p₀ l p = (p ≤ suc places) × (length l₀ ≡ suc places) × (l ≡ upTo p (countAt state) l₀)
+
+abbrev μ-loop : tie.MeasureT-loop
+μ-loop state l₀ p₀ l p = suc places - p
+
+pub calls-spec : {M : Type 1} → statement M
+calls-spec =
+    tie.close
+    (tie.spec
+    Inv-loop
+    μ-loop
+    (λ c. search needs)
+    (λ c κs. (c .before .before .before .pre, omega arith))
+    (λ c. search needs)
+    (λ c. search needs)
+    (λ c. search needs)
+    (λ c. search needs)
+    (λ c. (omega arith, refl, upTo-next _ _ _ _ _ (c .before .before .loop .inv .2) (c .count .ensures)))
+    (λ c. upTo-done (suc places) _ _ _ _ (c .before .loop .inv .0) (omega arith) refl (c .before .loop .inv .2)))

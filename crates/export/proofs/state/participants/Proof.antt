@@ -1,0 +1,32 @@
+-- `export::state::participants` meets its contract: the loop fills the table, place by place. Assumes nothing.
+use mathlib.Core.Path.{_≡_, refl}
+use Prim.Native.Nat.{suc, _-_, _≤_}
+use native.Mathlib.Omega.{arith}
+use lib.ListN.{length}
+use borrow.Author.Needs.{needs}
+use Rattle.store.specs.Log.{places}
+use Rattle.tail.proofs.Tabulate.{upTo, upTo-next, upTo-done}
+use Rattle.export.specs.State.{fieldsAt}
+use Rattle.export.proofs.state.participants.Statement.{statement}
+use Rattle.export.proofs.state.participants.Tie as tie
+
+abbrev Inv-loop : tie.InvT-loop
+Inv-loop state l₀ i₀ l i = (i ≤ places) × (length l₀ ≡ places) × (l ≡ upTo i (fieldsAt state) l₀)
+
+abbrev μ-loop : tie.MeasureT-loop
+μ-loop state l₀ i₀ l i = places - i
+
+pub participants-spec : {M : Type 1} → statement M
+participants-spec =
+    tie.close
+    (tie.spec
+    Inv-loop
+    μ-loop
+    (λ c. search needs)
+    (λ c κs. (c .before .before .before .pre, omega arith))
+    (λ c. search needs)
+    (λ c. search needs)
+    (λ c. search needs)
+    (λ c. search needs)
+    (λ c. (omega arith, refl, upTo-next _ _ _ _ _ (c .before .before .loop .inv .2) (c .fields .ensures)))
+    (λ c. upTo-done (places) _ _ _ _ (c .before .loop .inv .0) (omega arith) refl (c .before .loop .inv .2)))

@@ -1,0 +1,3 @@
+pub mod Types
+pub mod Packed
+pub mod State

@@ -1,0 +1,34 @@
+-- What is handed over as one number, for C. Assumes nothing.
+use mathlib.Core.Bool.{cond}
+use Prim.Native.Nat.{ℕ, _+_, _*_, _%_}
+use lib.Dec.{eqb}
+use Rattle.number.specs.Refusal.{Handed, hands}
+use Rattle.store.specs.Log.{recordNumber, recordOf}
+use Rattle.store.specs.Entry as Entry
+use Rattle.kind.specs.Kind.{kindNumber}
+use Rattle.export.specs.Types.{LogPair, Before, Read}
+
+-- the refusal's number or 0 in the upper 32 bits, the place or the length in the lower ones
+abbrev pub packed : Handed → ℕ
+packed h = h .number * 4294967296 + h .value % 4294967296
+
+-- four bytes, the first lowest
+abbrev pub fourBytes : ℕ → ℕ → ℕ → ℕ → ℕ
+fourBytes a b c d = a % 256 + 256 * (b % 256) + 65536 * (c % 256) + 16777216 * (d % 256)
+
+-- a record: its kind, its two numbers, its length
+abbrev pub readPacked : Read → ℕ
+readPacked (Read.Record r l) = fourBytes (kindNumber (r .kind)) (r .first) (r .second) (l % 256)
+readPacked (Read.Refused k place) = packed (hands k place)
+
+-- the header that came before, or none
+abbrev pub beforeOf : ℕ → ℕ → ℕ → Before
+beforeOf told n votes = cond (eqb told 0) Before.Nothing (Before.Header (record { n = n; votes = votes }))
+
+-- a log by the numbers of its records
+abbrev pub pairOf : ℕ → ℕ → LogPair
+pairOf first last = record { first = recordOf first; last = recordOf last }
+
+-- the refusal's number or 0, the log's first and last record, the record answered
+abbrev pub entryPacked : Entry.Handed → ℕ
+entryPacked h = fourBytes (h .number) (recordNumber (h .log .first)) (recordNumber (h .log .last)) (h .answer)

@@ -1,0 +1,162 @@
+// The public entries as C functions on bytes and numbers, for the comparison with the second program. Not part of the product's interface.
+pub mod state;
+
+use listing::list;
+use marker::run;
+use number::OUT_OF_RANGE;
+use schedule::Header;
+use schedule::reader::Before;
+use schedule::reader::Read;
+use schedule::reader::read_record;
+use store::EntryAnswer;
+use store::LogPair;
+use store::LogRecord;
+use writer::Written;
+use writer::write_record;
+ghost use mathlib.Core.Path.{_≡_};
+ghost use lib.ListN.{length};
+ghost use Rattle.number.specs.Refusal.{hands};
+ghost use Rattle.store.specs.Log.{recordOf};
+ghost use Rattle.store.specs.Entry.{handed, logOnceEntry, logEntry};
+ghost use Rattle.schedule.specs.Reader.{readerAnswers};
+ghost use Rattle.writer.specs.Writer.{writtenHands, writerAnswers, writerLeaves};
+ghost use Rattle.marker.specs.Run.{runAnswers, runLeaves};
+ghost use Rattle.listing.specs.Listing.{listAnswers, listLeaves};
+ghost use Rattle.export.specs.Packed.{packed, fourBytes, readPacked, entryPacked, beforeOf, pairOf};
+
+const WRONG_RECORD: u32 = 8;
+
+const REFUSED_BY_RULE: u32 = 9;
+
+// A refusal's number or 0 in the upper 32 bits, what is handed over with it in the lower ones.
+fn pack(number: u32, value: usize) -> u64
+    ensures { λ x. ⌜ x ≡ packed (hands number value) ⌝ }
+{
+    (number as u64) * 4294967296 + (value as u64) % 4294967296
+}
+
+// Four numbers below 256 in one, the first lowest.
+pub fn four(a: u32, b: u32, c: u32, d: u32) -> u32
+    ensures { λ x. ⌜ x ≡ fourBytes a b c d ⌝ }
+{
+    a % 256 + 256 * (b % 256) + 65536 * (c % 256) + 16777216 * (d % 256)
+}
+
+fn pack_written(w: Written) -> u64
+    ensures { λ x. ⌜ x ≡ packed (writtenHands w) ⌝ }
+{
+    match w {
+        Written::Done(end) => pack(0, end),
+        Written::Refused(k, v) => pack(k, v),
+    }
+}
+
+fn pack_read(r: Read) -> u64
+    ensures { λ x. ⌜ x ≡ readPacked r ⌝ }
+{
+    match r {
+        Read::Record(found, length) => {
+            let kind = found.kind;
+            four(
+                kind.number(),
+                found.first,
+                found.second,
+                (length % 256) as u32,
+            ) as u64
+        }
+        Read::Refused(k, place) => pack(k, place),
+    }
+}
+
+fn pack_log(number: u32, log: LogPair, answer: u32) -> u32
+    ensures { λ x. ⌜ x ≡ entryPacked (record { number = number; answer = answer; log = log }) ⌝ }
+{
+    let first = log.first;
+    let last = log.last;
+    four(number, first.number(), last.number(), answer)
+}
+
+fn pack_entry(a: EntryAnswer) -> u32
+    ensures { λ x. ⌜ x ≡ entryPacked (handed a) ⌝ }
+{
+    match a {
+        EntryAnswer::Done(x) => {
+            let answer = x.answer;
+            pack_log(0, x.log, answer.number())
+        }
+        EntryAnswer::OutOfRange(log) => pack_log(OUT_OF_RANGE, log, 0),
+        EntryAnswer::WrongRecord(log) => pack_log(WRONG_RECORD, log, 0),
+        EntryAnswer::RefusedByRule(log) => pack_log(REFUSED_BY_RULE, log, 0),
+    }
+}
+
+fn before(told: u32, n: u32, votes: u32) -> Before
+    ensures { λ b. ⌜ b ≡ beforeOf told n votes ⌝ }
+{
+    if told == 0 {
+        Before::Nothing
+    } else {
+        Before::Header(Header { n: n, votes: votes })
+    }
+}
+
+fn pair(first: u32, last: u32) -> LogPair
+    ensures { λ l. ⌜ l ≡ pairOf first last ⌝ }
+{
+    LogPair {
+        first: LogRecord::of(first),
+        last: LogRecord::of(last),
+    }
+}
+
+#[no_mangle]
+pub extern "C" fn compare_run(schedule: &[u8], report: &mut [u8]) -> u64
+    ensures { λ x. ⌜ (x ≡ packed (writtenHands (runAnswers (length (now (report .entry))) (now (schedule .entry)))))
+        × (now (report .exit) ≡ runLeaves (now (report .entry)) (now (schedule .entry))) ⌝ }
+{
+    pack_written(run(schedule, report))
+}
+
+#[no_mangle]
+pub extern "C" fn compare_list(schedule: &[u8], text: &mut [u8]) -> u64
+    ensures { λ x. ⌜ (x ≡ packed (writtenHands (listAnswers (length (now (text .entry))) (now (schedule .entry)))))
+        × (now (text .exit) ≡ listLeaves (now (text .entry)) (now (schedule .entry))) ⌝ }
+{
+    pack_written(list(schedule, text))
+}
+
+#[no_mangle]
+pub extern "C" fn compare_write(
+    buffer: &mut [u8],
+    place: u32,
+    kind: u32,
+    first: u32,
+    second: u32,
+) -> u64
+    ensures { λ x. ⌜ (x ≡ packed (writtenHands (writerAnswers (length (now (buffer .entry))) place kind first second)))
+        × (now (buffer .exit) ≡ writerLeaves (now (buffer .entry)) place kind first second) ⌝ }
+{
+    pack_written(write_record(buffer, place as usize, kind, first, second))
+}
+
+// `told` is 0 where no header came before.
+#[no_mangle]
+pub extern "C" fn compare_read(bytes: &[u8], told: u32, n: u32, votes: u32) -> u64
+    ensures { λ x. ⌜ x ≡ readPacked (readerAnswers (now (bytes .entry)) (beforeOf told n votes)) ⌝ }
+{
+    pack_read(read_record(bytes, before(told, n, votes)))
+}
+
+#[no_mangle]
+pub extern "C" fn compare_log_once(first: u32, last: u32, answer: u32) -> u32
+    ensures { λ x. ⌜ x ≡ entryPacked (logOnceEntry (pairOf first last) (recordOf answer)) ⌝ }
+{
+    pack_entry(pair(first, last).log_once_entry(LogRecord::of(answer)))
+}
+
+#[no_mangle]
+pub extern "C" fn compare_log(first: u32, last: u32, answer: u32) -> u32
+    ensures { λ x. ⌜ x ≡ entryPacked (logEntry (pairOf first last) (recordOf answer)) ⌝ }
+{
+    pack_entry(pair(first, last).log_entry(LogRecord::of(answer)))
+}
