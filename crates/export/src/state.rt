@@ -16,6 +16,7 @@ ghost use Rattle.store.specs.Log.{places};
 ghost use Rattle.rules.specs.State.{types};
 ghost use Rattle.tail.specs.Tail.{tabulate};
 ghost use Rattle.layout.specs.Tail.{tailLength};
+ghost use Rattle.layout.specs.Low.{lowTail};
 ghost use Rattle.export.specs.State.{messageAt, fieldsAt, countAt, tailAt, steppedPacked, steppedLeaves, stateAnswers, stateLeaves};
 
 fn wide(b: u8) -> u32
@@ -112,7 +113,7 @@ fn tail(state: &[u8]) -> Tail
 
 // Puts the next state where the step was taken. Answers the refusal's number, and the report byte above it.
 fn hand_over(state: &mut [u8], stepped: Stepped) -> u32
-    requires { ⌜ tailLength ≤ length (now state) ⌝ }
+    requires { ⌜ (tailLength ≤ length (now state)) × (length (lowTail (stepped .state)) ≡ tailLength) ⌝ }
     ensures { λ x. ⌜ (x ≡ steppedPacked stepped) × (now (state .exit) ≡ steppedLeaves (now (state .entry)) stepped) ⌝ }
 {
     let next = stepped.state;

@@ -117,7 +117,7 @@ module _ (r : Release) (small : r .n ≤ places) (five : length (r .messages) �
 
 -- Lengths
 
-each-length : {A : Type 0} (f : A → List ℕ) (m : ℕ) → ((x : A) → length (f x) ≡ m) → (xs : List A) → length (each f xs) ≡ length xs * m
+pub each-length : {A : Type 0} (f : A → List ℕ) (m : ℕ) → ((x : A) → length (f x) ≡ m) → (xs : List A) → length (each f xs) ≡ length xs * m
 unfolding each
 each-length f m h [] = sym (zero-mul m)
 each-length f m h (x ∷ xs) =
