@@ -3,8 +3,8 @@ use mathlib.Core.Path.{_≡_}
 use mathlib.Core.Bool.{Bool, true, _&&_}
 use mathlib.Core.List.{List, [], _∷_}
 use Prim.Native.Nat.{ℕ}
-use lib.Dec.{leb}
-use Rattle.number.specs.Numbering.{areNumbers3}
+use lib.Dec.{eqb, leb}
+use Rattle.number.specs.Numbering.{isNumber, areNumbers3}
 use Rattle.message.specs.Message.{typeNumber, messageOf}
 use Rattle.kind.specs.Types.{Kind, Step}
 use Rattle.kind.specs.Kind.{kindNumber, kindOf}
@@ -68,6 +68,20 @@ isStep k a b = areNumbers3 stepNumber firstNumber secondNumber stepOf k a b
 -- Reading, participants and logs go from 1 to n, parties from 0 to n
 abbrev pub numberInRange : ℕ → ℕ → ℕ → Bool
 numberInRange low k high = leb low k && leb k high
+
+-- the numbers of a body: type, participant; party, log; party; none. Numbers that are not used are 0
+
+abbrev pub messageInRange : ℕ → ℕ → ℕ → Bool
+messageInRange n a b = isNumber typeNumber messageOf a && numberInRange 1 b n
+
+abbrev pub callInRange : ℕ → ℕ → ℕ → Bool
+callInRange n a b = leb a n && numberInRange 1 b n
+
+abbrev pub partyInRange : ℕ → ℕ → ℕ → Bool
+partyInRange n a b = eqb 0 b && leb a n
+
+abbrev pub noneInRange : ℕ → ℕ → Bool
+noneInRange a b = eqb 0 a && eqb 0 b
 
 abbrev pub inRange : ℕ → Step → Bool
 inRange n Step.Start = true

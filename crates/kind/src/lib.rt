@@ -2,7 +2,7 @@
 use message::Message;
 ghost use mathlib.Core.Path.{_≡_};
 ghost use Rattle.kind.specs.Kind.{kindNumber, kindOf, bodyLength, isHeader};
-ghost use Rattle.kind.specs.Step.{stepKind, firstNumber, secondNumber, ofKind, isStep, numberInRange, inRange, numbersInRange};
+ghost use Rattle.kind.specs.Step.{ofKind, numberInRange, messageInRange, callInRange, partyInRange, noneInRange, numbersInRange};
 
 // The kind of a record.
 pub enum Kind {
@@ -118,57 +118,56 @@ pub fn between(low: u32, k: u32, high: u32) -> bool
     if low <= k { k <= high } else { false }
 }
 
+// The ranges of a body's numbers: type and participant; party and log; party, and nothing; nothing.
+fn message_in_range(n: u32, a: u32, b: u32) -> bool
+    ensures { λ x. ⌜ x ≡ messageInRange n a b ⌝ }
+{
+    if Message::of(a).number() == a {
+        between(1, b, n)
+    } else {
+        false
+    }
+}
+
+fn call_in_range(n: u32, a: u32, b: u32) -> bool
+    ensures { λ x. ⌜ x ≡ callInRange n a b ⌝ }
+{
+    if a <= n { between(1, b, n) } else { false }
+}
+
+fn party_in_range(n: u32, a: u32, b: u32) -> bool
+    ensures { λ x. ⌜ x ≡ partyInRange n a b ⌝ }
+{
+    if b == 0 { a <= n } else { false }
+}
+
+fn none_in_range(a: u32, b: u32) -> bool
+    ensures { λ x. ⌜ x ≡ noneInRange a b ⌝ }
+{
+    if a == 0 { 0 == b } else { false }
+}
+
+impl Kind {
+    // Whether a step of this kind that a reader yields under a header with n has these numbers. A header is no step.
+    pub fn numbers_in_range(self, n: u32, a: u32, b: u32) -> bool
+        ensures { λ x. ⌜ x ≡ numbersInRange n (kindNumber self) a b ⌝ }
+    {
+        match self {
+            Kind::Header => false,
+            Kind::Start => none_in_range(a, b),
+            Kind::Deliver => message_in_range(n, a, b),
+            Kind::Copy => message_in_range(n, a, b),
+            Kind::Lose => message_in_range(n, a, b),
+            Kind::Call => call_in_range(n, a, b),
+            Kind::CallLost => call_in_range(n, a, b),
+            Kind::Timeout => party_in_range(n, a, b),
+            Kind::Crash => party_in_range(n, a, b),
+            Kind::Restart => party_in_range(n, a, b),
+        }
+    }
+}
+
 impl Step {
-    pub fn kind(self) -> Kind
-        ensures { λ k. ⌜ k ≡ stepKind self ⌝ }
-    {
-        match self {
-            Step::Start => Kind::Start,
-            Step::Deliver(_, _) => Kind::Deliver,
-            Step::Copy(_, _) => Kind::Copy,
-            Step::Lose(_, _) => Kind::Lose,
-            Step::Call(_, _) => Kind::Call,
-            Step::CallLost(_, _) => Kind::CallLost,
-            Step::Timeout(_) => Kind::Timeout,
-            Step::Crash(_) => Kind::Crash,
-            Step::Restart(_) => Kind::Restart,
-        }
-    }
-
-    // The first number of its body, or 0.
-    pub fn first(self) -> u32
-        ensures { λ a. ⌜ a ≡ firstNumber self ⌝ }
-    {
-        match self {
-            Step::Start => 0,
-            Step::Deliver(m, _) => m.number(),
-            Step::Copy(m, _) => m.number(),
-            Step::Lose(m, _) => m.number(),
-            Step::Call(a, _) => a,
-            Step::CallLost(a, _) => a,
-            Step::Timeout(a) => a,
-            Step::Crash(a) => a,
-            Step::Restart(a) => a,
-        }
-    }
-
-    // The second number of its body, or 0.
-    pub fn second(self) -> u32
-        ensures { λ b. ⌜ b ≡ secondNumber self ⌝ }
-    {
-        match self {
-            Step::Start => 0,
-            Step::Deliver(_, b) => b,
-            Step::Copy(_, b) => b,
-            Step::Lose(_, b) => b,
-            Step::Call(_, b) => b,
-            Step::CallLost(_, b) => b,
-            Step::Timeout(_) => 0,
-            Step::Crash(_) => 0,
-            Step::Restart(_) => 0,
-        }
-    }
-
     // The step of a kind with the numbers of its body. A header is none: for it a start.
     pub fn of(k: Kind, a: u32, b: u32) -> Step
         ensures { λ s. ⌜ s ≡ ofKind k a b ⌝ }
@@ -187,45 +186,13 @@ impl Step {
         }
     }
 
-    // Whether these are the numbers of a step.
-    fn known(k: u32, a: u32, b: u32) -> bool
-        ensures { λ x. ⌜ x ≡ isStep k a b ⌝ }
-    {
-        let s = Step::of(Kind::of(k), a, b);
-        if s.kind().number() == k {
-            if s.first() == a {
-                s.second() == b
-            } else {
-                false
-            }
-        } else {
-            false
-        }
-    }
-
-    // Whether a reader yields the step under a header with n.
-    pub fn in_range(self, n: u32) -> bool
-        ensures { λ b. ⌜ b ≡ inRange n self ⌝ }
-    {
-        match self {
-            Step::Start => true,
-            Step::Deliver(_, p) => between(1, p, n),
-            Step::Copy(_, p) => between(1, p, n),
-            Step::Lose(_, p) => between(1, p, n),
-            Step::Call(p, q) => if p <= n { between(1, q, n) } else { false },
-            Step::CallLost(p, q) => if p <= n { between(1, q, n) } else { false },
-            Step::Timeout(p) => p <= n,
-            Step::Crash(p) => p <= n,
-            Step::Restart(p) => p <= n,
-        }
-    }
-
     // Whether these are the numbers of a step that a reader yields under a header with n.
     pub fn numbers_in_range(n: u32, k: u32, a: u32, b: u32) -> bool
         ensures { λ x. ⌜ x ≡ numbersInRange n k a b ⌝ }
     {
-        if Step::known(k, a, b) {
-            Step::of(Kind::of(k), a, b).in_range(n)
+        let kind = Kind::of(k);
+        if kind.number() == k {
+            kind.numbers_in_range(n, a, b)
         } else {
             false
         }

@@ -72,7 +72,7 @@ impl Record {
         if kind.is_header() {
             self.header().in_range()
         } else {
-            Step::numbers_in_range(n, kind.number(), self.first, self.second)
+            kind.numbers_in_range(n, self.first, self.second)
         }
     }
 }

@@ -11,6 +11,5 @@ in-range-spec =
     (λ c κs. search needs)
     (λ c κs. search needs)
     (λ c κs. search needs)
-    (λ c κs. search needs)
     (λ c. simp (c .in-range .ensures, c .before .header .ensures, c .before .before .if1 .taken, ← c .before .before .before .is-header .ensures))
-    (λ c. simp (← c .numbers-in-range .ensures, ← c .before .number .ensures, c .before .before .if1 .left, ← c .before .before .before .is-header .ensures)))
+    (λ c. simp (← c .numbers-in-range .ensures, c .before .if1 .left, ← c .before .before .is-header .ensures)))
