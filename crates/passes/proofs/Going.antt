@@ -8,6 +8,7 @@ use native.Mathlib.Omega.{arith}
 use native.Mathlib.Numerals.{add-one}
 use lib.ListN.{length, getD, set, drop, length-set}
 use lib.Seq.{sets}
+use Rattle.store.specs.Log.{places}
 use Rattle.kind.specs.Step.{inRange}
 use Rattle.schedule.specs.Record.{recordStep, headerInRange, longest}
 use Rattle.schedule.specs.Reader.{readerAnswers}
@@ -56,8 +57,8 @@ set-out s h start count out within short room header left =
     }
 
 module _ {s : List ℕ} {h : Header} {start count : ℕ} {out₀ out : List ℕ} {at i : ℕ} {r : Release} (g : Going s h start count out₀ out at i r) (some : at < length s) where
-  -- a step may be taken: n has room in a mask, and every count has room for one call more
-  pub small : r .n ≤ 32
+  -- a step may be taken: the release has room for n, and every count has room for one call more
+  pub small : r .n ≤ places
   small = rw (g .same-n) (omega (arith, header-size h (g .header) .1))
 
   pub countable : Countable (r .calls)

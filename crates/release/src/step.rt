@@ -1,33 +1,30 @@
-// One step of a release: the rules of a party say what is due and what it leads to; here that is applied to the release. `i` and `j` are places,
-// which count from 0; `p` and `q` are the numbers of a party and of a log.
-use coordinator::Coordinator;
+// One step of a release: the parts that the step names are read, changed and put back. `i` and `j` are places, which count from 0; `p` and `q`
+// are the numbers of a party and of a log.
+use change::Change;
+use change::Part;
+use change::led;
 use kind::Step;
-use message::Decision;
 use message::Message;
 use message::Sent;
-use participant::Participant;
 use rules::Outcome;
+use rules::PARTIES;
 use rules::Release;
 use rules::Report;
-use state::called;
-use state::log_of;
-use state::mask_of;
-use state::participant_of;
-use state::with_coordinator;
-use state::with_mask;
-use state::with_participant;
-use store::Logged;
-use store::Performed;
+use rules::Site;
+use rules::TYPES;
+use store::LOGS;
 ghost use mathlib.Core.Path.{_≡_};
-ghost use mathlib.Core.Bool.{true, false};
-ghost use Prim.Native.Nat.{_+_, _≤_, _<_};
+ghost use mathlib.Core.Bool.{true, cond};
+ghost use Prim.Native.Nat.{suc, _-_, _≤_, _<_};
 ghost use lib.ListN.{getD};
+ghost use Rattle.mask.specs.Mask.{insert, full};
+ghost use Rattle.store.specs.Log.{places};
 ghost use Rattle.kind.specs.Step.{inRange};
-ghost use Rattle.kind.specs.declared.Step.{Step};
-ghost use Rattle.rules.specs.Report.{outcomeNumber, moves, known, coordinatorKnown, learnt};
-ghost use Rattle.rules.specs.Step.{idle, moved, send, drop, sendAll, reply, participantTo, participantGoes, broadcast, coordinatorTo, coordinatorGoes, receive, participantAnswered, participantPerformed, participantCalls, coordinatorAnswered, coordinatorPerformed, coordinatorCalls, calls, step};
-ghost use Rattle.rules.specs.Due.{messageDue};
+ghost use Rattle.rules.specs.State.{messagePlace};
+ghost use Rattle.rules.specs.Report.{outcomeNumber, moves};
+ghost use Rattle.rules.specs.Step.{step};
 ghost use Rattle.rules.specs.Run.{countLimit, Countable};
+ghost use Rattle.release.specs.Applied.{participantPlace, logPlace, caller, named, taken, flight, dropped, sent, counted, partOf, putBack, withMessages};
 
 // Whether the step was due.
 pub fn moves(o: Outcome) -> bool
@@ -53,402 +50,243 @@ pub fn report_byte(o: Outcome) -> u8
     }
 }
 
-// What a participant knows of the decision.
-fn known(p: Participant) -> Outcome
-    ensures { λ o. ⌜ o ≡ known p ⌝ }
+// The place of a number. Number 0 is the coordinator, which has none.
+fn place(p: u32) -> u32
+    ensures { λ i. ⌜ i ≡ p - 1 ⌝ }
 {
-    match p {
-        Participant::Waiting => Outcome::Moved,
-        Participant::VotingYes => Outcome::Moved,
-        Participant::Closing => Outcome::Moved,
-        Participant::Uncertain => Outcome::Moved,
-        Participant::Terminating(_) => Outcome::Moved,
-        Participant::RecordingCommit => Outcome::Commit,
-        Participant::RecordingAbort => Outcome::Abort,
-        Participant::DoneCommit => Outcome::Commit,
-        Participant::DoneAbort => Outcome::Abort,
-        Participant::Down => Outcome::Moved,
-    }
+    if p == 0 { 0 } else { p - 1 }
 }
 
-// What the coordinator knows of the decision.
-fn coordinator_known(c: Coordinator) -> Outcome
-    ensures { λ o. ⌜ o ≡ coordinatorKnown c ⌝ }
-{
-    match c {
-        Coordinator::Idle => Outcome::Moved,
-        Coordinator::Waiting(_) => Outcome::Moved,
-        Coordinator::Terminating(_) => Outcome::Moved,
-        Coordinator::Commit => Outcome::Commit,
-        Coordinator::Abort => Outcome::Abort,
-        Coordinator::Down => Outcome::Moved,
-        Coordinator::Retired => Outcome::Moved,
-    }
-}
-
-// What a due step reports of a party that knew the first and knows the second.
-fn learnt(old: Outcome, new: Outcome) -> Outcome
-    ensures { λ o. ⌜ o ≡ learnt old new ⌝ }
-{
-    match old {
-        Outcome::Idle => new,
-        Outcome::Moved => new,
-        Outcome::Commit => Outcome::Moved,
-        Outcome::Abort => Outcome::Moved,
-    }
-}
-
-fn idle(r: Release) -> Report
-    ensures { λ report. ⌜ report ≡ idle r ⌝ }
-{
-    Report {
-        outcome: Outcome::Idle,
-        next: r,
-    }
-}
-
-fn moved(r: Release) -> Report
-    ensures { λ report. ⌜ report ≡ moved r ⌝ }
-{
-    Report {
-        outcome: Outcome::Moved,
-        next: r,
-    }
-}
-
-// A message to or from participant i comes into flight, or out of it.
-fn send(r: Release, m: Message, i: u32) -> Release
-    requires { ⌜ i < 32 ⌝ }
-    ensures { λ next. ⌜ next ≡ send m i r ⌝ }
-{
-    with_mask(r, m, mask::insert(mask_of(r, m), i))
-}
-
-fn drop(r: Release, m: Message, i: u32) -> Release
-    ensures { λ next. ⌜ next ≡ drop m i r ⌝ }
-{
-    with_mask(r, m, mask::remove(mask_of(r, m), i))
-}
-
-fn send_all(r: Release, m: Message) -> Release
-    requires { ⌜ r .n ≤ 32 ⌝ }
-    ensures { λ next. ⌜ next ≡ sendAll m r ⌝ }
-{
-    with_mask(r, m, mask::full(r.n))
-}
-
-fn reply(r: Release, s: Sent, i: u32) -> Release
-    requires { ⌜ i < 32 ⌝ }
-    ensures { λ next. ⌜ next ≡ reply s i r ⌝ }
+// The place of the participant that a step names.
+fn participant_place(s: Step) -> u32
+    ensures { λ i. ⌜ i ≡ participantPlace s ⌝ }
 {
     match s {
-        Sent::Nothing => r,
-        Sent::Sends(m) => send(r, m, i),
+        Step::Start => 0,
+        Step::Deliver(_, p) => place(p),
+        Step::Copy(_, p) => place(p),
+        Step::Lose(_, p) => place(p),
+        Step::Call(p, _) => place(p),
+        Step::CallLost(p, _) => place(p),
+        Step::Timeout(p) => place(p),
+        Step::Crash(p) => place(p),
+        Step::Restart(p) => place(p),
     }
 }
 
-fn broadcast(r: Release, s: Sent) -> Release
-    requires { ⌜ r .n ≤ 32 ⌝ }
-    ensures { λ next. ⌜ next ≡ broadcast s r ⌝ }
+// The place of the log that a step names.
+fn log_place(s: Step) -> u32
+    ensures { λ j. ⌜ j ≡ logPlace s ⌝ }
 {
     match s {
-        Sent::Nothing => r,
-        Sent::Sends(m) => send_all(r, m),
+        Step::Start => 0,
+        Step::Deliver(_, _) => 0,
+        Step::Copy(_, _) => 0,
+        Step::Lose(_, _) => 0,
+        Step::Call(_, q) => place(q),
+        Step::CallLost(_, q) => place(q),
+        Step::Timeout(_) => 0,
+        Step::Crash(_) => 0,
+        Step::Restart(_) => 0,
     }
 }
 
-// Participant i goes to a state and sends its reply.
-fn participant_to(r: Release, i: u32, p: Participant, s: Sent) -> Report
-    requires { ⌜ i < 32 ⌝ }
-    ensures { λ report. ⌜ report ≡ participantTo i p s r ⌝ }
+// The party whose call a step is.
+fn caller(s: Step) -> u32
+    ensures { λ p. ⌜ p ≡ caller s ⌝ }
 {
-    let outcome = learnt(known(participant_of(r, i)), known(p));
-    let next = with_participant(reply(r, s, i), i, p);
-    Report {
-        outcome: outcome,
-        next: next,
+    match s {
+        Step::Start => 0,
+        Step::Deliver(_, _) => 0,
+        Step::Copy(_, _) => 0,
+        Step::Lose(_, _) => 0,
+        Step::Call(p, _) => p,
+        Step::CallLost(p, _) => p,
+        Step::Timeout(_) => 0,
+        Step::Crash(_) => 0,
+        Step::Restart(_) => 0,
     }
 }
 
-fn participant_goes(r: Release, i: u32, t: participant::Transition) -> Report
-    requires { ⌜ i < 32 ⌝ }
-    ensures { λ report. ⌜ report ≡ participantGoes i t r ⌝ }
+// The message that a step names.
+fn named(s: Step) -> Sent
+    ensures { λ m. ⌜ m ≡ named s ⌝ }
 {
-    match t {
-        participant::Transition::NotDue => idle(r),
-        participant::Transition::To(p, s) => participant_to(r, i, p, s),
+    match s {
+        Step::Start => Sent::Nothing,
+        Step::Deliver(m, _) => Sent::Sends(m),
+        Step::Copy(m, _) => Sent::Sends(m),
+        Step::Lose(m, _) => Sent::Sends(m),
+        Step::Call(_, _) => Sent::Nothing,
+        Step::CallLost(_, _) => Sent::Nothing,
+        Step::Timeout(_) => Sent::Nothing,
+        Step::Crash(_) => Sent::Nothing,
+        Step::Restart(_) => Sent::Nothing,
     }
 }
 
-// The coordinator goes to a state and sends to all.
-fn coordinator_to(r: Release, c: Coordinator, s: Sent) -> Report
-    requires { ⌜ r .n ≤ 32 ⌝ }
-    ensures { λ report. ⌜ report ≡ coordinatorTo c s r ⌝ }
+// The message that a step takes out of flight.
+fn taken(s: Step) -> Sent
+    ensures { λ m. ⌜ m ≡ taken s ⌝ }
 {
-    let old = r.coordinator;
-    let outcome = learnt(coordinator_known(old), coordinator_known(c));
-    let next = with_coordinator(broadcast(r, s), c);
-    Report {
-        outcome: outcome,
-        next: next,
+    match s {
+        Step::Start => Sent::Nothing,
+        Step::Deliver(m, _) => Sent::Sends(m),
+        Step::Copy(_, _) => Sent::Nothing,
+        Step::Lose(m, _) => Sent::Sends(m),
+        Step::Call(_, _) => Sent::Nothing,
+        Step::CallLost(_, _) => Sent::Nothing,
+        Step::Timeout(_) => Sent::Nothing,
+        Step::Crash(_) => Sent::Nothing,
+        Step::Restart(_) => Sent::Nothing,
     }
 }
 
-fn coordinator_goes(r: Release, t: coordinator::Transition) -> Report
-    requires { ⌜ r .n ≤ 32 ⌝ }
-    ensures { λ report. ⌜ report ≡ coordinatorGoes t r ⌝ }
+// Where the mask of a message's type stands.
+fn message_place(m: Message) -> usize
+    ensures { λ k. ⌜ (k ≡ messagePlace m) × (k < 5) ⌝ }
 {
-    match t {
-        coordinator::Transition::NotDue => idle(r),
-        coordinator::Transition::To(c, s) => coordinator_to(r, c, s),
-    }
-}
-
-// A message is delivered: requests and decisions to participant i, replies from it to the coordinator.
-fn receive(r: Release, m: Message, i: u32) -> Report
-    requires { ⌜ (r .n ≤ 32) × (i < 32) ⌝ }
-    ensures { λ report. ⌜ report ≡ receive m i r ⌝ }
-{
-    let c = r.coordinator;
-    let p = participant_of(r, i);
     match m {
-        Message::Request => participant_to(r, i, p.request(mask::has(r.votes, i)), Sent::Nothing),
-        Message::ReplyYes => coordinator_goes(r, c.reply_yes(r.n, i)),
-        Message::ReplyAbort => coordinator_goes(r, c.reply_abort()),
-        Message::Commit => participant_to(r, i, p.decision(Decision::Commit), Sent::Nothing),
-        Message::Abort => participant_to(r, i, p.decision(Decision::Abort), Sent::Nothing),
+        Message::Request => 0,
+        Message::ReplyYes => 1,
+        Message::ReplyAbort => 2,
+        Message::Commit => 3,
+        Message::Abort => 4,
     }
 }
 
-// What a performed call of participant i on log j leads to: the log changes, and where the answer is heard the participant does too.
-fn participant_answered(
-    r: Release,
-    heard: bool,
-    i: u32,
-    j: u32,
-    x: Logged,
-    t: participant::Transition,
-) -> Report
-    requires { ⌜ (i < 32) × (getD (r .calls) (i + 1) 0 < countLimit) ⌝ }
-    ensures { λ report. ⌜ report ≡ participantAnswered heard i j x t r ⌝ }
+// Whether a message to or from participant i is in flight.
+fn flight(masks: [u32; TYPES], m: Sent, i: u32) -> bool
+    ensures { λ b. ⌜ b ≡ flight masks m i ⌝ }
 {
-    match t {
-        participant::Transition::NotDue => idle(r),
-        participant::Transition::To(p, s) => {
-            let log = x.log;
-            let next = called(r, i + 1, j, log);
-            if heard {
-                participant_to(next, i, p, s)
-            } else {
-                moved(next)
-            }
+    match m {
+        Sent::Nothing => false,
+        Sent::Sends(t) => {
+            let k = message_place(t);
+            mask::has(masks[k], i)
         }
     }
 }
 
-fn participant_performed(r: Release, heard: bool, i: u32, j: u32, x: Performed) -> Report
-    requires { ⌜ (r .n ≤ 32) × (i < 32) × (j < 32) × (getD (r .calls) (i + 1) 0 < countLimit) ⌝ }
-    ensures { λ report. ⌜ report ≡ participantPerformed heard i j x r ⌝ }
+// The masks without a message to or from participant i.
+fn dropped(masks: [u32; TYPES], m: Sent, i: u32) -> [u32; TYPES]
+    ensures { λ l. ⌜ l ≡ dropped masks m i ⌝ }
 {
-    match x {
-        Performed::Refused => idle(r),
-        Performed::Done(l) => {
-            let answer = l.answer;
-            let t = participant_of(r, i).answer(r.n, i, j, answer);
-            participant_answered(r, heard, i, j, l, t)
+    match m {
+        Sent::Nothing => masks,
+        Sent::Sends(t) => {
+            let k = message_place(t);
+            let mut next = masks;
+            next[k] = mask::remove(masks[k], i);
+            next
         }
     }
 }
 
-fn participant_calls(r: Release, heard: bool, i: u32, j: u32) -> Report
-    requires { ⌜ (r .n ≤ 32) × (i < 32) × (j < 32) × (getD (r .calls) (i + 1) 0 < countLimit) ⌝ }
-    ensures { λ report. ⌜ report ≡ participantCalls heard i j r ⌝ }
+// The mask of a type that is sent: to all, or by participant i.
+fn sent_mask(old: u32, all: bool, n: u32, i: u32) -> u32
+    requires { ⌜ (n ≤ 32) × (i < 32) ⌝ }
+    ensures { λ x. ⌜ x ≡ cond all (full n) (insert i old) ⌝ }
 {
-    let call = participant_of(r, i).pending(i, j);
-    participant_performed(r, heard, i, j, log_of(r, j).perform(call))
+    if all {
+        mask::full(n)
+    } else {
+        mask::insert(old, i)
+    }
 }
 
-// The same for the coordinator.
-fn coordinator_answered(
-    r: Release,
-    heard: bool,
-    j: u32,
-    x: Logged,
-    t: coordinator::Transition,
-) -> Report
-    requires { ⌜ (r .n ≤ 32) × (getD (r .calls) 0 0 < countLimit) ⌝ }
-    ensures { λ report. ⌜ report ≡ coordinatorAnswered heard j x t r ⌝ }
+// The masks with what is sent.
+fn sent(masks: [u32; TYPES], m: Sent, all: bool, n: u32, i: u32) -> [u32; TYPES]
+    requires { ⌜ (n ≤ 32) × (i < 32) ⌝ }
+    ensures { λ l. ⌜ l ≡ sent masks m all n i ⌝ }
 {
-    match t {
-        coordinator::Transition::NotDue => idle(r),
-        coordinator::Transition::To(c, s) => {
-            let log = x.log;
-            let next = called(r, 0, j, log);
-            if heard {
-                coordinator_to(next, c, s)
-            } else {
-                moved(next)
-            }
+    match m {
+        Sent::Nothing => masks,
+        Sent::Sends(t) => {
+            let k = message_place(t);
+            let mut next = masks;
+            next[k] = sent_mask(masks[k], all, n, i);
+            next
         }
     }
 }
 
-fn coordinator_performed(r: Release, heard: bool, j: u32, x: Performed) -> Report
-    requires { ⌜ (r .n ≤ 32) × (j < 32) × (getD (r .calls) 0 0 < countLimit) ⌝ }
-    ensures { λ report. ⌜ report ≡ coordinatorPerformed heard j x r ⌝ }
+// One call more of party p, where there was one.
+fn counted(counts: [u16; PARTIES], p: u32, called: bool) -> [u16; PARTIES]
+    requires { ⌜ (p < suc places) × (getD counts p 0 < countLimit) ⌝ }
+    ensures { λ l. ⌜ l ≡ counted counts p called ⌝ }
 {
-    match x {
-        Performed::Refused => idle(r),
-        Performed::Done(l) => {
-            let answer = l.answer;
-            let c = r.coordinator;
-            coordinator_answered(r, heard, j, l, c.answer(r.n, j, answer))
-        }
-    }
-}
-
-fn coordinator_calls(r: Release, heard: bool, j: u32) -> Report
-    requires { ⌜ (r .n ≤ 32) × (j < 32) × (getD (r .calls) 0 0 < countLimit) ⌝ }
-    ensures { λ report. ⌜ report ≡ coordinatorCalls heard j r ⌝ }
-{
-    let c = r.coordinator;
-    coordinator_performed(r, heard, j, log_of(r, j).perform(c.pending(j)))
-}
-
-// A call of party p on log q.
-fn calls(r: Release, heard: bool, p: u32, q: u32) -> Report
-    requires { ⌜ (r .n ≤ 32) × (p ≤ 32) × (q ≤ 32) × Countable (r .calls) ⌝ }
-    ensures { λ report. ⌜ report ≡ calls heard p q r ⌝ }
-{
-    if q == 0 {
-        return idle(r);
-    }
-    if p == 0 {
-        coordinator_calls(r, heard, q - 1)
+    if called {
+        let mut next = counts;
+        let k = p as usize;
+        next[k] = counts[k] + 1;
+        next
     } else {
-        participant_calls(r, heard, p - 1, q - 1)
+        counts
     }
 }
 
-// Whether a message of this type to or from participant p is in flight.
-fn in_flight(r: Release, m: Message, p: u32) -> bool
-    ensures { λ b. ⌜ b ≡ messageDue r m p ⌝ }
+// The release after a change of the parts at these places; `masks` are those of the messages.
+fn put_back(r: Release, masks: [u32; TYPES], i: u32, j: u32, p: u32, x: Change) -> Release
+    requires { ⌜ (r .n ≤ 32) × (i < places) × (p < suc places) × (getD (r .calls) p 0 < countLimit) ⌝ }
+    ensures { λ next. ⌜ next ≡ putBack i j p x (withMessages masks r) ⌝ }
 {
-    if p == 0 {
-        false
-    } else {
-        mask::has(mask_of(r, m), p - 1)
+    let coordinator = x.coordinator;
+    let participant = x.participant;
+    let log = x.log;
+    let m = x.sent;
+    let messages = sent(masks, m, x.all, r.n, i);
+    let mut sites = r.sites;
+    sites[i as usize] = Site {
+        participant: participant,
+    };
+    let store = r.store;
+    let written = store.with_log(j as usize, log);
+    let before = r.calls;
+    let calls = counted(before, p, x.called);
+    Release {
+        n: r.n,
+        votes: r.votes,
+        coordinator: coordinator,
+        messages: messages,
+        sites: sites,
+        store: written,
+        calls: calls,
     }
 }
 
-fn start(r: Release) -> Report
-    requires { ⌜ r .n ≤ 32 ⌝ }
-    ensures { λ report. ⌜ report ≡ step r Step.Start ⌝ }
+// The parts of a release that a step names.
+fn part_of(r: Release, i: u32, j: u32) -> Part
+    requires { ⌜ i < places ⌝ }
+    ensures { λ x. ⌜ x ≡ partOf i j r ⌝ }
 {
-    let c = r.coordinator;
-    coordinator_goes(r, c.start())
-}
-
-fn deliver(r: Release, m: Message, p: u32) -> Report
-    requires { ⌜ (r .n ≤ 32) × (1 ≤ p) × (p ≤ 32) ⌝ }
-    ensures { λ report. ⌜ report ≡ step r (Step.Deliver m p) ⌝ }
-{
-    if in_flight(r, m, p) {
-        receive(drop(r, m, p - 1), m, p - 1)
-    } else {
-        idle(r)
-    }
-}
-
-fn copy(r: Release, m: Message, p: u32) -> Report
-    requires { ⌜ (r .n ≤ 32) × (1 ≤ p) × (p ≤ 32) ⌝ }
-    ensures { λ report. ⌜ report ≡ step r (Step.Copy m p) ⌝ }
-{
-    if in_flight(r, m, p) {
-        receive(r, m, p - 1)
-    } else {
-        idle(r)
-    }
-}
-
-fn lose(r: Release, m: Message, p: u32) -> Report
-    requires { ⌜ 1 ≤ p ⌝ }
-    ensures { λ report. ⌜ report ≡ step r (Step.Lose m p) ⌝ }
-{
-    if in_flight(r, m, p) {
-        moved(drop(r, m, p - 1))
-    } else {
-        idle(r)
-    }
-}
-
-fn call(r: Release, p: u32, q: u32) -> Report
-    requires { ⌜ (r .n ≤ 32) × (p ≤ 32) × (q ≤ 32) × Countable (r .calls) ⌝ }
-    ensures { λ report. ⌜ report ≡ step r (Step.Call p q) ⌝ }
-{
-    calls(r, true, p, q)
-}
-
-fn call_lost(r: Release, p: u32, q: u32) -> Report
-    requires { ⌜ (r .n ≤ 32) × (p ≤ 32) × (q ≤ 32) × Countable (r .calls) ⌝ }
-    ensures { λ report. ⌜ report ≡ step r (Step.CallLost p q) ⌝ }
-{
-    calls(r, false, p, q)
-}
-
-fn timeout(r: Release, p: u32) -> Report
-    requires { ⌜ (r .n ≤ 32) × (p ≤ 32) ⌝ }
-    ensures { λ report. ⌜ report ≡ step r (Step.Timeout p) ⌝ }
-{
-    if p == 0 {
-        let c = r.coordinator;
-        coordinator_goes(r, c.timeout())
-    } else {
-        let i = p - 1;
-        participant_goes(r, i, participant_of(r, i).timeout(r.n, i))
-    }
-}
-
-fn crash(r: Release, p: u32) -> Report
-    requires { ⌜ (r .n ≤ 32) × (p ≤ 32) ⌝ }
-    ensures { λ report. ⌜ report ≡ step r (Step.Crash p) ⌝ }
-{
-    if p == 0 {
-        let c = r.coordinator;
-        coordinator_goes(r, c.crash())
-    } else {
-        let i = p - 1;
-        participant_goes(r, i, participant_of(r, i).crash())
-    }
-}
-
-fn restart(r: Release, p: u32) -> Report
-    requires { ⌜ (r .n ≤ 32) × (p ≤ 32) ⌝ }
-    ensures { λ report. ⌜ report ≡ step r (Step.Restart p) ⌝ }
-{
-    if p == 0 {
-        let c = r.coordinator;
-        coordinator_goes(r, c.restart())
-    } else {
-        let i = p - 1;
-        participant_goes(r, i, participant_of(r, i).restart())
+    let coordinator = r.coordinator;
+    let site = r.sites[i as usize];
+    let participant = site.participant;
+    let store = r.store;
+    let log = store.log_at(j as usize);
+    Part {
+        n: r.n,
+        votes: r.votes,
+        coordinator: coordinator,
+        participant: participant,
+        log: log,
     }
 }
 
 // One step that a reader yields under a header with n.
 pub fn step(r: Release, s: Step) -> Report
-    requires { ⌜ (r .n ≤ 32) × (inRange (r .n) s ≡ true) × Countable (r .calls) ⌝ }
+    requires { ⌜ (r .n ≤ places) × (inRange (r .n) s ≡ true) × Countable (r .calls) ⌝ }
     ensures { λ report. ⌜ report ≡ step r s ⌝ }
 {
-    match s {
-        Step::Start => start(r),
-        Step::Deliver(m, p) => deliver(r, m, p),
-        Step::Copy(m, p) => copy(r, m, p),
-        Step::Lose(m, p) => lose(r, m, p),
-        Step::Call(p, q) => call(r, p, q),
-        Step::CallLost(p, q) => call_lost(r, p, q),
-        Step::Timeout(p) => timeout(r, p),
-        Step::Crash(p) => crash(r, p),
-        Step::Restart(p) => restart(r, p),
+    let i = participant_place(s);
+    let j = log_place(s);
+    let messages = r.messages;
+    let x = led(part_of(r, i, j), s, flight(messages, named(s), i));
+    let outcome = x.outcome;
+    let next = put_back(r, dropped(messages, taken(s), i), i, j, caller(s), x);
+    Report {
+        outcome: outcome,
+        next: next,
     }
 }

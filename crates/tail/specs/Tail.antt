@@ -10,9 +10,9 @@ use Rattle.store.specs.Log.{recordNumber, recordOf, isRecord, isAllowed, places
 use Rattle.participant.specs.Participant
 use Rattle.coordinator.specs.Coordinator
 use Rattle.schedule.specs.Record.{headerInRange}
-use Rattle.rules.specs.State.{participantOf, firstOf, lastOf, types}
+use Rattle.rules.specs.State.{participantOf, logOf, types}
 use Rattle.rules.specs.Run.{countLimit}
-use Rattle.tail.specs.Types.{LogPair, Header, Site, Release, ParticipantFields, Tail}
+use Rattle.tail.specs.Types.{LogPair, Participant, Header, Site, Release, ParticipantFields, Tail}
 
 -- f 0 to f (k - 1), and whether all of k places pass a test
 
@@ -27,14 +27,12 @@ every test (suc k) = every test k && test k
 -- a release in numbers: n, votes, coordinator state and heard mask, five message masks; for participants 1 to 8 state, heard mask, first, last;
 -- for parties 0 to 8 the due store calls made
 
+abbrev pub fieldsFor : Participant → LogPair → ParticipantFields
+fieldsFor p l =
+    record { state = Participant.stateNumber p; heard = Participant.heardOf p; first = recordNumber (l .first); last = recordNumber (l .last) }
+
 abbrev pub fieldsOf : Release → ℕ → ParticipantFields
-fieldsOf r i =
-    record {
-      state = Participant.stateNumber (participantOf r i);
-      heard = Participant.heardOf (participantOf r i);
-      first = recordNumber (firstOf r i);
-      last = recordNumber (lastOf r i);
-    }
+fieldsOf r i = fieldsFor (participantOf r i) (logOf r i)
 
 abbrev pub tailOf : Release → Tail
 tailOf r =

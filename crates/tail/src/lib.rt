@@ -8,8 +8,6 @@ use rules::Release;
 use rules::Site;
 use rules::TYPES;
 use schedule::Header;
-use state::log_of;
-use state::participant_of;
 use store::LOGS;
 use store::LogPair;
 use store::LogRecord;
@@ -18,7 +16,8 @@ ghost use mathlib.Core.Path.{_≡_};
 ghost use mathlib.Core.Bool.{true};
 ghost use Prim.Native.Nat.{_≤_, _<_};
 ghost use Rattle.store.specs.Log.{places};
-ghost use Rattle.tail.specs.Tail.{tabulate, fieldsOf, tailOf, siteOf, pairOf, fieldsAt, releaseOf, messagesInRange, recordsInRange, fieldsZero, participantInRange, participantsInRange, partiesInRange, countInRange, callsInRange, tailInRange};
+ghost use Rattle.rules.specs.State.{participantAt, logAt};
+ghost use Rattle.tail.specs.Tail.{tabulate, fieldsFor, tailOf, siteOf, pairOf, fieldsAt, releaseOf, messagesInRange, recordsInRange, fieldsZero, participantInRange, participantsInRange, partiesInRange, countInRange, callsInRange, tailInRange};
 
 // A participant's state, heard mask, and its log's first and last record.
 pub struct ParticipantFields {
@@ -40,12 +39,10 @@ pub struct Tail {
 }
 
 impl ParticipantFields {
-    // The fields of the participant at place i of a release.
-    fn of(r: Release, i: u32) -> ParticipantFields
-        ensures { λ f. ⌜ f ≡ fieldsOf r i ⌝ }
+    // The fields of a participant and its log.
+    fn of(participant: Participant, log: LogPair) -> ParticipantFields
+        ensures { λ f. ⌜ f ≡ fieldsFor participant log ⌝ }
     {
-        let participant = participant_of(r, i);
-        let log = log_of(r, i);
         let first = log.first;
         let last = log.last;
         ParticipantFields {
@@ -182,8 +179,8 @@ impl Tail {
         }
     }
 
-    fn participants_of(r: Release) -> [ParticipantFields; LOGS]
-        ensures { λ l. ⌜ l ≡ tabulate places (fieldsOf r) ⌝ }
+    fn participants_of(sites: [Site; LOGS], logs: [LogPair; LOGS]) -> [ParticipantFields; LOGS]
+        ensures { λ l. ⌜ l ≡ tabulate places (λ i. fieldsFor (participantAt sites i) (logAt logs i)) ⌝ }
     {
         let mut participants = [ParticipantFields {
             state: 0,
@@ -192,7 +189,10 @@ impl Tail {
             last: 0,
         }; LOGS];
         for i in 0..LOGS {
-            let fields = ParticipantFields::of(r, i as u32);
+            let site = sites[i];
+            let log = logs[i];
+            let participant = site.participant;
+            let fields = ParticipantFields::of(participant, log);
             participants[i] = fields;
         }
         participants
@@ -204,7 +204,10 @@ impl Tail {
     {
         let coordinator = r.coordinator;
         let messages = r.messages;
-        let participants = Tail::participants_of(r);
+        let sites = r.sites;
+        let store = r.store;
+        let logs = store.logs;
+        let participants = Tail::participants_of(sites, logs);
         let calls = r.calls;
         Tail {
             n: r.n,

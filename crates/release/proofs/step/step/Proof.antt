@@ -1,6 +1,6 @@
 -- `release::step::step` meets its contract, case by case. Assumes nothing.
 use native.Mathlib.Omega.{arith}
-use Rattle.rules.proofs.Bounds.{bounds}
+use Rattle.release.proofs.Applied.{applied-step, place-below, caller-most}
 use borrow.Author.Needs.{needs}
 use Rattle.release.proofs.step.step.Statement.{statement}
 use Rattle.release.proofs.step.step.Tie as tie
@@ -9,30 +9,14 @@ pub step-spec : {M : Type 1} → statement M
 step-spec =
     tie.close
     (tie.spec
-    (λ c. search needs)
     (λ c κs. search needs)
-    (λ c. search needs)
-    (λ c κs. let r = rw (c .before .s .given .1) at (bounds (c .before .before .before .args .r .n) (c .before .before .before .args .s) (c .before .before .before .pre .1)) in (c .before .before .before .pre .0, r .0, omega (arith, r .1, c .before .before .before .pre .0)))
-    (λ c. search needs)
-    (λ c κs. let r = rw (c .before .s2 .given .1) at (bounds (c .before .before .before .args .r .n) (c .before .before .before .args .s) (c .before .before .before .pre .1)) in (c .before .before .before .pre .0, r .0, omega (arith, r .1, c .before .before .before .pre .0)))
-    (λ c. search needs)
-    (λ c κs. let r = rw (c .before .s3 .given .1) at (bounds (c .before .before .before .args .r .n) (c .before .before .before .args .s) (c .before .before .before .pre .1)) in r .0)
-    (λ c. search needs)
-    (λ c κs. let r = rw (c .before .s4 .given .1) at (bounds (c .before .before .before .args .r .n) (c .before .before .before .args .s) (c .before .before .before .pre .1)) in (c .before .before .before .pre .0, omega (arith, r .0, c .before .before .before .pre .0), omega (arith, r .2, c .before .before .before .pre .0), c .before .before .before .pre .2))
-    (λ c. search needs)
-    (λ c κs. let r = rw (c .before .s5 .given .1) at (bounds (c .before .before .before .args .r .n) (c .before .before .before .args .s) (c .before .before .before .pre .1)) in (c .before .before .before .pre .0, omega (arith, r .0, c .before .before .before .pre .0), omega (arith, r .2, c .before .before .before .pre .0), c .before .before .before .pre .2))
-    (λ c. search needs)
-    (λ c κs. let r = rw (c .before .s6 .given .1) at (bounds (c .before .before .before .args .r .n) (c .before .before .before .args .s) (c .before .before .before .pre .1)) in (c .before .before .before .pre .0, omega (arith, r, c .before .before .before .pre .0)))
-    (λ c. search needs)
-    (λ c κs. let r = rw (c .before .s7 .given .1) at (bounds (c .before .before .before .args .r .n) (c .before .before .before .args .s) (c .before .before .before .pre .1)) in (c .before .before .before .pre .0, omega (arith, r, c .before .before .before .pre .0)))
-    (λ c. search needs)
-    (λ c κs. let r = rw (c .before .s8 .given .1) at (bounds (c .before .before .before .args .r .n) (c .before .before .before .args .s) (c .before .before .before .pre .1)) in (c .before .before .before .pre .0, omega (arith, r, c .before .before .before .pre .0)))
-    (λ c. simp (c .start .ensures, c .before .enum-told .given .1))
-    (λ c. simp (c .deliver .ensures, c .before .before .s .given .1))
-    (λ c. simp (c .copy .ensures, c .before .before .s2 .given .1))
-    (λ c. simp (c .lose .ensures, c .before .before .s3 .given .1))
-    (λ c. simp (c .call .ensures, c .before .before .s4 .given .1))
-    (λ c. simp (c .call-lost .ensures, c .before .before .s5 .given .1))
-    (λ c. simp (c .timeout .ensures, c .before .before .s6 .given .1))
-    (λ c. simp (c .crash .ensures, c .before .before .s7 .given .1))
-    (λ c. simp (c .restart .ensures, c .before .before .s8 .given .1)))
+    (λ c κs. search needs)
+    (λ c κs. let start = c .before .before .before in omega (arith, c .before .before .participant-place .ensures, place-below (start .args .r .n) (start .args .s) (start .pre .0) (start .pre .1)))
+    (λ c κs. search needs)
+    (λ c κs. search needs)
+    (λ c κs. let start = c .before .before .before .before .before .before in rw (c .before .before .part-of .ensures) (omega (arith, start .pre .0), start .pre .1))
+    (λ c κs. search needs)
+    (λ c κs. search needs)
+    (λ c κs. search needs)
+    (λ c κs. let start = c .before .before .before .before .before .before .before .before .before .before in (omega (arith, start .pre .0), omega (arith, c .before .before .before .before .before .before .before .before .before .participant-place .ensures, place-below (start .args .r .n) (start .args .s) (start .pre .0) (start .pre .1)), omega (arith, c .caller .ensures, caller-most (start .args .r .n) (start .args .s) (start .pre .0) (start .pre .1)), start .pre .2 (c .caller .result)))
+    (λ c. let start = c .before .before .before .before .before .before .before .before .before .before .before in simp (c .put-back .ensures, c .before .caller .ensures, c .before .before .dropped .ensures, c .before .before .before .taken .ensures, c .before .before .before .before .led .ensures, c .before .before .before .before .before .flight .ensures, c .before .before .before .before .before .before .named .ensures, c .before .before .before .before .before .before .before .part-of .ensures, c .before .before .before .before .before .before .before .before .before .log-place .ensures, c .before .before .before .before .before .before .before .before .before .before .participant-place .ensures) (applied-step (start .args .r) (start .args .s) (start .pre .1))))

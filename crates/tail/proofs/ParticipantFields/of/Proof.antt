@@ -11,6 +11,4 @@ of-spec =
     (λ c κs. search needs)
     (λ c κs. search needs)
     (λ c κs. search needs)
-    (λ c κs. search needs)
-    (λ c κs. search needs)
-    (λ c. simp (c .number3 .ensures, c .before .number2 .ensures, c .before .before .heard .ensures, c .before .before .before .number .ensures, c .before .before .before .before .log-of .ensures, c .before .before .before .before .before .participant-of .ensures)))
+    (λ c. simp (c .number3 .ensures, c .before .number2 .ensures, c .before .before .heard .ensures, c .before .before .before .number .ensures)))

@@ -4,16 +4,17 @@ use Prim.Native.Nat.{_-_, _≤_}
 use native.Mathlib.Omega.{arith}
 use lib.ListN.{length}
 use borrow.Author.Needs.{needs}
-use Rattle.tail.specs.Tail.{fieldsOf}
+use Rattle.rules.specs.State.{participantAt, logAt}
+use Rattle.tail.specs.Tail.{fieldsFor}
 use Rattle.tail.proofs.Tabulate.{upTo, upTo-next, upTo-done}
 use Rattle.tail.proofs.Tail.participants_of.Statement.{statement}
 use Rattle.tail.proofs.Tail.participants_of.Tie as tie
 
 abbrev Inv-loop : tie.InvT-loop
-Inv-loop r participants₀ i₀ participants i = (i ≤ 8) × (length participants₀ ≡ 8) × (participants ≡ upTo i (fieldsOf r) participants₀)
+Inv-loop sites logs participants₀ i₀ participants i = (i ≤ 8) × (length participants₀ ≡ 8) × (participants ≡ upTo i (λ j. fieldsFor (participantAt sites j) (logAt logs j)) participants₀)
 
 abbrev μ-loop : tie.MeasureT-loop
-μ-loop r participants₀ i₀ participants i = 8 - i
+μ-loop sites logs participants₀ i₀ participants i = 8 - i
 
 pub participants-of-spec : {M : Type 1} → statement M
 participants-of-spec =
@@ -23,10 +24,13 @@ participants-of-spec =
     μ-loop
     (λ c. search needs)
     (λ c. search needs)
+    (λ c. search needs)
+    (λ c. search needs)
+    (λ c. search needs)
     (λ c κs. search needs)
     (λ c. search needs)
     (λ c. search needs)
     (λ c. search needs)
     (λ c. search needs)
-    (λ c. (omega arith, refl, upTo-next _ _ _ _ _ (c .before .before .loop .inv .2) (c .of .ensures)))
+    (λ c. (omega arith, refl, upTo-next _ _ _ _ _ (c .before .before .before .before .loop .inv .2) (c .of .ensures)))
     (λ c. upTo-done 8 _ _ _ _ (c .before .loop .inv .0) (omega arith) refl (c .before .loop .inv .2)))

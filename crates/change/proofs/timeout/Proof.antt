@@ -1,0 +1,17 @@
+-- `change::timeout` meets its contract, case by case. Assumes nothing.
+use borrow.Author.Tests.{eq-eqb, ne-eqb}
+use borrow.Author.Needs.{needs}
+use Rattle.change.proofs.timeout.Statement.{statement}
+use Rattle.change.proofs.timeout.Tie as tie
+
+pub timeout-spec : {M : Type 1} → statement M
+timeout-spec =
+    tie.close
+    (tie.spec
+    (λ c κs. search needs)
+    (λ c κs. search needs)
+    (λ c. search needs)
+    (λ c κs. search needs)
+    (λ c κs. search needs)
+    (λ c. simp (c .coordinator-goes .ensures, c .before .timeout .ensures, eq-eqb _ _ (c .before .before .if1 .taken)))
+    (λ c. simp (c .participant-goes .ensures, c .before .timeout2 .ensures, ne-eqb _ _ (c .before .before .if1 .left))))
