@@ -1,12 +1,11 @@
--- What a run tells of a schedule's line, where the report has room for every report; and where a frame ends. Assumes nothing.
+-- What a run tells of a schedule's line, where the report has room for every report. Assumes nothing.
 use mathlib.Core.Path.{_≡_, refl, sym, ap, _∙_}
-use mathlib.Core.Bool.{Bool, true, false, cond}
+use mathlib.Core.Bool.{cond}
 use mathlib.Core.List.{List, _++_}
 use Prim.Native.Nat.{ℕ, _+_, _^_, _≤_, _<_}
 use native.Mathlib.Omega.{arith}
 use lib.ListN.{length, take}
-use lib.Dec.{ltb}
-use borrow.Author.Tests.{ltb-false, le-ltb}
+use borrow.Author.Tests.{le-ltb}
 use Rattle.number.specs.Refusal.{tooShort}
 use Rattle.text.specs.Text.{ascii, hexadecimal, refusalLine}
 use Rattle.text.proofs.Laws.{decimal-length, refusal-length}
@@ -16,8 +15,8 @@ use Rattle.schedule.proofs.RoundTrip.{bytes-kept, read-in-range}
 use Rattle.layout.specs.Tail.{tailLength}
 use Rattle.marker.specs.Run.{readingAnswer, runAnswers, runLeaves}
 use Rattle.marker.proofs.Left.{ran, report-left}
-use Rattle.frame.specs.Types.{Step, Header, Written, Frame}
-use Rattle.frame.specs.Frame.{frameLength, frameOf, readingLine, lineOf, longestReport, longestLine}
+use Rattle.frame.specs.Types.{Step, Header, Written}
+use Rattle.frame.specs.Frame.{readingLine, lineOf, longestReport, longestLine}
 
 steps-most : (s : List ℕ) (h : Header) (steps : List Step) → readSchedule s ≡ Accepted h steps → length steps + tailLength ≤ longestReport
 steps-most s h steps e =
@@ -57,16 +56,3 @@ line-refused s room k at enough d = go (readSchedule s) refl d
 pub refusal-most : (k at : ℕ) → k < 10 ^ 10 → at < 10 ^ 20 → length (refusalLine k at) ≤ longestLine
 refusal-most k at p q =
     omega (arith, refusal-length k at, decimal-length 10 k (omega arith) p, decimal-length 20 at (omega arith) q)
-
--- a frame that is whole stands within the bytes
-pub frame-whole : (bytes : List ℕ) (size : ℕ) → frameOf bytes ≡ Frame.Whole size → 2 + size ≤ length bytes
-frame-whole bytes size e = by-two (ltb (length bytes) 2) e
-  where
-    by-length : (b : Bool) → ltb (length bytes) (2 + frameLength bytes) ≡ b → cond b Frame.Incomplete (Frame.Whole (frameLength bytes)) ≡ Frame.Whole size → 2 + size ≤ length bytes
-    by-length true t e = let z : _≡_ {A = ℕ} 0 1 = cc in absurd (omega arith)
-    by-length false t e = let same : frameLength bytes ≡ size = cc in omega (arith, ltb-false (length bytes) (2 + frameLength bytes) t)
-
-    by-two : (b : Bool) → cond b Frame.Incomplete (cond (ltb (length bytes) (2 + frameLength bytes)) Frame.Incomplete (Frame.Whole (frameLength bytes))) ≡ Frame.Whole size
-        → 2 + size ≤ length bytes
-    by-two true e = let z : _≡_ {A = ℕ} 0 1 = cc in absurd (omega arith)
-    by-two false e = by-length (ltb (length bytes) (2 + frameLength bytes)) refl e

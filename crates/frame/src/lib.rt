@@ -11,17 +11,25 @@ ghost use Prim.Native.Nat.{_+_, _≤_, _<_};
 ghost use lib.ListN.{length};
 ghost use Rattle.text.specs.Put.{Put};
 ghost use Rattle.marker.specs.Run.{runLeaves};
-ghost use Rattle.frame.specs.Frame.{frameOf, lineOf, longestReport, longestLine};
+ghost use Rattle.frame.specs.Frame.{BeginsWith, MarkedUpTo, lineOf, longestReport, longestLine};
 
-// No report has more bytes than this, and no line.
+// No report has more bytes than this, no line and no frame: two bytes tell its length.
 pub const REPORT: usize = LONGEST + TAIL;
 
 pub const LINE: usize = 2 * REPORT + 1;
+
+pub const FRAME: usize = 2 + 65535;
 
 // The length of the schedule in a frame; or not all of the frame is there.
 pub enum Frame {
     Whole(usize),
     Incomplete,
+}
+
+// How many bytes of the input are marked, and how many of the text are filled.
+pub struct Marked {
+    pub used: usize,
+    pub filled: usize,
 }
 
 fn wide(b: u8) -> usize
@@ -32,7 +40,7 @@ fn wide(b: u8) -> usize
 
 // The frame that these bytes begin with.
 pub fn first_frame(bytes: &[u8]) -> Frame
-    ensures { λ f. ⌜ f ≡ frameOf (now (bytes .entry)) ⌝ }
+    ensures { λ f. ⌜ BeginsWith f (now (bytes .entry)) ⌝ }
 {
     if bytes.len() < 2 {
         return Frame::Incomplete;
@@ -58,5 +66,30 @@ pub fn put_line(schedule: &[u8], report: &mut [u8], text: &mut [u8], place: usiz
             put(text, end, b"\n")
         }
         Written::Refused(k, at) => put_refusal(text, place, k, at),
+    }
+}
+
+// Marks frames from the front, as long as the next one is whole and its line, however long, has room.
+pub fn mark_frames(input: &[u8], report: &mut [u8], text: &mut [u8]) -> Marked
+    requires { ⌜ longestReport ≤ length (now report) ⌝ }
+    ensures { λ m. ⌜ MarkedUpTo (now (input .entry)) (m .used) (now (text .exit)) (m .filled) ⌝ }
+{
+    let mut used: usize = 0;
+    let mut filled: usize = 0;
+    while LINE <= text.len() - filled {
+        let Frame::Whole(size) = first_frame(&input[used..]) else {
+            return Marked {
+                used: used,
+                filled: filled,
+            };
+        };
+        let start = used + 2;
+        let end = start + size;
+        filled = put_line(&input[start..end], report, text, filled);
+        used = end;
+    }
+    Marked {
+        used: used,
+        filled: filled,
     }
 }

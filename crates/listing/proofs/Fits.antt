@@ -1,11 +1,17 @@
 -- A text of `longestText` bytes has room for every listing, as a program with such a buffer needs. Assumes nothing.
-use mathlib.Core.Path.{ap}
+use mathlib.Core.Path.{_≡_, ap, _∙_}
+use mathlib.Core.Bool.{false, cond}
 use mathlib.Core.List.{List}
 use Prim.Native.Nat.{ℕ, _+_, _≤_}
 use native.Mathlib.Omega.{arith}
-use lib.ListN.{length, length-append}
-use Rattle.number.specs.Refusal.{outOfRange}
+use lib.Dec.{ltb}
+use lib.ListN.{length, take, length-append}
+use lib.Seq.{sets, length-sets}
+use borrow.Author.Tests.{le-ltb}
+use Rattle.number.specs.Refusal.{outOfRange, tooShort}
+use Rattle.text.specs.Put.{Put}
 use Rattle.text.proofs.Laws.{decimal-length, refusal-length}
+use Rattle.text.proofs.Putting.{put-front}
 use Rattle.store.specs.Log.{places}
 use Rattle.schedule.specs.declared.reader.Before.{Before}
 use Rattle.schedule.specs.Record.{longest}
@@ -16,8 +22,8 @@ use Rattle.schedule.proofs.Reading.{refused-number, SaysWhole, read-says, steps
 use Rattle.rules.specs.Run.{outcomes, after}
 use Rattle.passes.specs.Pass.{freshOf, stepBytes}
 use Rattle.passes.proofs.Passed.{bytes-length}
-use Rattle.listing.specs.Types.{Step, Header}
-use Rattle.listing.specs.Listing.{stepLines, endLines, readingText, longestText, ListingFits}
+use Rattle.listing.specs.Types.{Step, Header, Written}
+use Rattle.listing.specs.Listing.{stepLines, endLines, readingText, listing, longestText, ListingFits, listAnswers, listLeaves}
 use Rattle.lines.proofs.LineLaws.{lines-few}
 use Rattle.listing.proofs.Laws.{lines-outcomes, end-few}
 use Rattle.listing.proofs.Listed.{run-calls, run-n}
@@ -51,3 +57,28 @@ listing-fits schedule = go (readSchedule schedule) (read-says schedule)
     go (Refused k place) y =
         let small = refusal-small y in
         omega (arith, refusal-length k place, decimal-length 5 k (omega arith) (omega arith), decimal-length 5 place (omega arith) (omega arith))
+
+-- In such a text a listing is never refused, and stands at the front
+
+module _ (text schedule : List ℕ) (room : longestText ≤ length text) where
+  fits : ltb (length text) (length (listing schedule)) ≡ false
+  fits = le-ltb (length text) (length (listing schedule)) (omega (arith, listing-fits schedule))
+
+  done : listAnswers (length text) schedule ≡ Written.Done (length (listing schedule))
+  done = ap (λ b. cond b (Written.Refused tooShort (length (listing schedule))) (Written.Done (length (listing schedule)))) fits
+
+  pub never-refused : (k place : ℕ) → Written.Refused k place ≡ listAnswers (length text) schedule → ⊥
+  never-refused k place answer =
+      let other : Written.Refused k place ≡ Written.Done (length (listing schedule)) = answer ∙ done in
+      let z : _≡_ {A = ℕ} 0 1 = cc (other) in
+      omega arith
+
+  pub listed-whole : (after : List ℕ) (end : ℕ) → Written.Done end ≡ listAnswers (length text) schedule → after ≡ listLeaves text schedule
+      → (end ≤ length after) × (take end after ≡ listing schedule)
+  listed-whole after end answer left =
+      let same : Written.Done end ≡ Written.Done (length (listing schedule)) = answer ∙ done in
+      let long : end ≡ length (listing schedule) = cc (same) in
+      let put : Put text 0 (listing schedule) end after = record { ends = omega arith; leaves = left ∙ ap (λ b. cond b text (sets text 0 (listing schedule))) fits } in (
+        omega (arith, listing-fits schedule, ap length (put .leaves) ∙ length-sets text 0 (listing schedule)),
+        put-front put (omega (arith, listing-fits schedule)),
+      )

@@ -3,11 +3,12 @@ use mathlib.Core.Path.{_≡_, refl, sym, ap, ap₂, _∙_}
 use mathlib.Core.List.{List, [], _∷_, _++_}
 use Prim.Native.Nat.{ℕ, suc, _+_, _≤_, _<_}
 use native.Mathlib.Omega.{arith}
-use lib.ListN.{length, getD, take, drop}
-use lib.Seq.{sets, sets-eq, take-at}
+use lib.ListN.{length, getD, take}
+use lib.Seq.{sets}
 use borrow.Author.Tests.{lt-ltb, le-ltb}
 use Rattle.number.specs.Refusal.{tooShort}
 use Rattle.text.specs.Put.{Put}
+use Rattle.text.proofs.Putting.{put-front}
 use Rattle.store.specs.Log.{places}
 use Rattle.schedule.specs.Schedule.{Reading, Accepted, Refused, readSchedule}
 use Rattle.schedule.proofs.Laws.{header-size}
@@ -34,11 +35,6 @@ module _ (text bytes : List ℕ) (needed : ℕ) (e : needed ≡ length bytes) wh
   pub text-fits : needed ≤ length text → {end : ℕ} {after : List ℕ} → Put text 0 bytes end after
       → (Written.Done needed ≡ textAnswer (length text) bytes) × (after ≡ textLeft text bytes)
   text-fits h p = rw e (simp (le-ltb (length text) (length bytes) (omega arith)) (refl, p .leaves))
-
--- what was put at the front of a buffer stands there
-pub put-front : {before after bytes : List ℕ} {end : ℕ} → Put before 0 bytes end after → length bytes ≤ length before → take end after ≡ bytes
-put-front {before} {after} {bytes} {end} p fits =
-    ap (take end) (p .leaves ∙ sets-eq bytes before 0 (omega arith)) ∙ take-at bytes (drop (0 + length bytes) before) end (omega (arith, p .ends))
 
 -- The counts after some steps
 

@@ -1,66 +1,45 @@
 // Marks many schedules: standard input is a sequence of frames, and for each there is a line on standard output. The memory is fixed: what is read
 // is marked as far as its frames are whole, and the rest is kept for the next reading.
-use frame::Frame;
+use frame::FRAME;
 use frame::LINE;
 use frame::REPORT;
-use frame::first_frame;
-use frame::put_line;
+use frame::mark_frames;
 use libc::STDIN_FILENO;
 use libc::STDOUT_FILENO;
 ghost use mathlib.Core.Path.{_≡_};
-ghost use Prim.Native.Nat.{_+_, _-_, _≤_};
+ghost use Prim.Native.Nat.{_+_, _-_, _≤_, _<_};
 ghost use lib.ListN.{length, take, drop};
-ghost use Rattle.frame.specs.Frame.{frameOf, longestReport, longestLine};
-ghost use Rattle.frame.specs.declared.Frame.{Frame};
+ghost use Rattle.frame.specs.Frame.{LinesOf, FramesThen, longestReport, longestLine, longestFrame};
 
-// Room for two frames of the greatest length, 65,535 bytes after the two that say so, and for two lines.
-const INPUT: usize = 131074;
+// Room for two frames and two lines of the greatest length.
+const INPUT: usize = 2 * FRAME;
 
 const OUTPUT: usize = 2 * LINE;
 
-// How many bytes of the input were marked, and how many of the output are filled.
-struct Marked {
-    used: usize,
-    filled: usize,
-}
-
-// Writes the output out where it has no room for a further line. Answers how much of it is filled.
-fn make_room(output: &[u8], filled: usize) -> usize
-    requires { ⌜ (filled ≤ length (now output)) × (longestLine ≤ length (now output)) ⌝ }
-    ensures { λ r. ⌜ r + longestLine ≤ length (now (output .entry)) ⌝ }
+// Writes out the lines of these frames. Answers how many bytes the frames have, so that a caller passes over just what is written.
+fn write_lines(frames: &[u8], lines: &[u8]) -> usize
+    requires { ⌜ LinesOf (now frames) (now lines) ⌝ }
+    ensures { λ r. ⌜ r ≡ length (now (frames .entry)) ⌝ }
 {
-    if output.len() - filled < LINE {
-        io::write_all(STDOUT_FILENO, &output[..filled]);
-        0
-    } else {
-        filled
-    }
+    io::write_all(STDOUT_FILENO, lines);
+    frames.len()
 }
 
-// Marks every frame that is whole: what is left begins with one that is not.
-fn mark_frames(input: &[u8], report: &mut [u8], output: &mut [u8]) -> Marked
+// Marks every frame that is whole, a part of them at a time, and writes out the lines of each part. Answers how many bytes these frames have.
+fn mark_whole(input: &[u8], report: &mut [u8], output: &mut [u8]) -> usize
     requires { ⌜ (longestReport ≤ length (now report)) × (longestLine ≤ length (now output)) ⌝ }
-    ensures { λ m. ⌜ (m .used ≤ length (now (input .entry))) × (m .filled ≤ length (now (output .entry)))
-        × (frameOf (drop (m .used) (now (input .entry))) ≡ Frame.Incomplete) ⌝ }
+    ensures { λ used. ⌜ (used ≤ length (now (input .entry))) × FramesThen (now (input .entry)) (drop used (now (input .entry))) ⌝ }
 {
     let mut at: usize = 0;
-    let mut filled: usize = 0;
-    while at < input.len() {
-        let Frame::Whole(size) = first_frame(&input[at..]) else {
-            return Marked {
-                used: at,
-                filled: filled,
-            };
-        };
-        let start = at + 2;
-        let end = start + size;
-        let place = make_room(output, filled);
-        filled = put_line(&input[start..end], report, output, place);
-        at = end;
-    }
-    Marked {
-        used: at,
-        filled: filled,
+    loop {
+        let marked = mark_frames(&input[at..], report, output);
+        let used = marked.used;
+        if used == 0 {
+            return at;
+        }
+        let end = at + used;
+        let filled = marked.filled;
+        at = at + write_lines(&input[at..end], &output[..filled]);
     }
 }
 
@@ -76,20 +55,18 @@ fn keep_rest(input: &mut [u8], from: usize, end: usize) -> usize
     kept
 }
 
-// Marks what was read so far, and writes the lines out. Answers how much of it is kept.
+// Marks what was read so far: it is whole frames, and then what is kept. Answers how much that is.
 fn mark_read(input: &mut [u8], end: usize, report: &mut [u8], output: &mut [u8]) -> usize
     requires { ⌜ (end ≤ length (now input)) × (longestReport ≤ length (now report)) × (longestLine ≤ length (now output)) ⌝ }
-    ensures { λ kept. ⌜ kept ≤ length (now (input .entry)) ⌝ }
+    ensures { λ kept. ⌜ (kept < longestFrame) × FramesThen (take end (now (input .entry))) (take kept (now (input .exit))) ⌝ }
 {
-    let marked = mark_frames(&input[..end], report, output);
-    let filled = marked.filled;
-    io::write_all(STDOUT_FILENO, &output[..filled]);
-    keep_rest(input, marked.used, end)
+    let used = mark_whole(&input[..end], report, output);
+    keep_rest(input, used, end)
 }
 
-// Reads more, after what was kept. Answers how much; nothing where the input has ended.
+// Reads more, after what was kept. Answers how much; nothing where the input has ended, since there is room.
 fn read_more(input: &mut [u8], kept: usize) -> usize
-    requires { ⌜ kept ≤ length (now input) ⌝ }
+    requires { ⌜ kept < length (now input) ⌝ }
     ensures { λ r. ⌜ kept + r ≤ length (now (input .entry)) ⌝ }
 {
     let part = &mut input[kept..];
@@ -99,7 +76,7 @@ fn read_more(input: &mut [u8], kept: usize) -> usize
 
 // A proved loop has to end, and nothing says that an input does: the turns count down from a number that no run uses up.
 fn replay(input: &mut [u8], report: &mut [u8], output: &mut [u8])
-    requires { ⌜ (longestReport ≤ length (now report)) × (longestLine ≤ length (now output)) ⌝ }
+    requires { ⌜ (longestFrame ≤ length (now input)) × (longestReport ≤ length (now report)) × (longestLine ≤ length (now output)) ⌝ }
 {
     let mut kept: usize = 0;
     let mut turns = u64::MAX;

@@ -1,12 +1,12 @@
 -- Bytes put one after the other: two parts, and a loop over a list. Assumes nothing.
 use mathlib.Core.Path.{_≡_, refl, sym, ap, ap₂, subst, _∙_}
-use mathlib.Core.List.{List, [], _++_}
+use mathlib.Core.List.{List, [], _∷_, _++_, append-nil, append-assoc}
 use Prim.Native.Nat.{ℕ, suc, _+_, _≤_, _<_}
 use native.Mathlib.Nat.{add-zero}
 use native.Mathlib.Numerals.{add-one}
 use native.Mathlib.Omega.{arith}
-use lib.ListN.{length, getD, drop, length-append, drop-of-length-le}
-use lib.Seq.{sets, length-sets, drop-cons}
+use lib.ListN.{length, getD, take, drop, length-append, drop-of-length-le}
+use lib.Seq.{sets, length-sets, sets-eq, take-at, drop-cons}
 use Rattle.number.proofs.Lists.{sets-append}
 use Rattle.text.specs.Put.{Put, each}
 
@@ -21,6 +21,22 @@ put-then {before} {between} {after} {xs} {ys} {place} {middle} {end} x y =
 
 pub put-same : {before after xs ys : List ℕ} {place end : ℕ} → xs ≡ ys → Put before place xs end after → Put before place ys end after
 put-same {before} {after} {xs} {ys} {place} {end} e x = subst (λ l. Put before place l end after) e x
+
+-- what was put at the front of a buffer stands there
+pub put-front : {before after bytes : List ℕ} {end : ℕ} → Put before 0 bytes end after → length bytes ≤ length before → take end after ≡ bytes
+put-front {before} {after} {bytes} {end} p fits =
+    ap (take end) (p .leaves ∙ sets-eq bytes before 0 (omega arith)) ∙ take-at bytes (drop (0 + length bytes) before) end (omega (arith, p .ends))
+
+-- the bytes of each element of two lists, and of one element more
+
+pub each-append : {A : Type 0} (f : A → List ℕ) (xs ys : List A) → each f (xs ++ ys) ≡ each f xs ++ each f ys
+unfolding each
+each-append f [] ys = refl
+each-append f (x ∷ xs) ys = ap (λ l. f x ++ l) (each-append f xs ys) ∙ sym (append-assoc (f x) (each f xs) (each f ys))
+
+pub each-more : {A : Type 0} (f : A → List ℕ) (xs : List A) (x : A) → each f (xs ++ (x ∷ [])) ≡ each f xs ++ f x
+unfolding each
+each-more f xs x = each-append f xs (x ∷ []) ∙ ap (λ l. each f xs ++ l) (append-nil (f x))
 
 -- A loop that puts the bytes of each element
 

@@ -1,7 +1,7 @@
 -- `frame::first_frame` meets its contract, case by case. Assumes nothing.
 use native.Mathlib.Omega.{arith}
-use borrow.Author.Tests.{lt-ltb, le-ltb}
 use borrow.Author.Needs.{needs}
+use Rattle.frame.proofs.Frames.{no-length, incomplete, whole}
 use Rattle.frame.proofs.first_frame.Statement.{statement}
 use Rattle.frame.proofs.first_frame.Tie as tie
 
@@ -9,7 +9,7 @@ pub first-frame-spec : {M : Type 1} → statement M
 first-frame-spec =
     tie.close
     (tie.spec
-    (λ c. simp (lt-ltb _ _ (c .if1 .taken)))
+    (λ c. no-length _ (c .if1 .taken))
     (λ c. search needs)
     (λ c κs. search needs)
     (λ c. search needs)
@@ -17,5 +17,5 @@ first-frame-spec =
     (λ c. omega (arith, c .wide2 .ensures .1))
     (λ c. omega (arith, c .wide2 .ensures .1, c .before .before .wide .ensures .1))
     (λ c. omega (arith, c .wide2 .ensures .1, c .before .before .wide .ensures .1))
-    (λ c. simp (le-ltb _ _ (c .before .before .before .before .before .if1 .left), ← c .before .wide2 .ensures .0, ← c .before .before .before .wide .ensures .0, lt-ltb _ _ (c .if2 .taken)))
-    (λ c. simp (le-ltb _ _ (c .before .before .before .before .before .if1 .left), ← c .before .wide2 .ensures .0, ← c .before .before .before .wide .ensures .0, le-ltb _ _ (c .if2 .left))))
+    (λ c. let low = c .before .before .before .wide .ensures in let high = c .before .wide2 .ensures in incomplete _ _ _ (low .0) (high .0) (low .1) (high .1) (c .if2 .taken))
+    (λ c. let low = c .before .before .before .wide .ensures in let high = c .before .wide2 .ensures in whole _ _ _ (low .0) (high .0) (low .1) (c .if2 .left)))

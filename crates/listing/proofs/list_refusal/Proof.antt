@@ -5,13 +5,11 @@ use Prim.Native.Nat.{ℕ, _≤_}
 use native.Mathlib.Omega.{arith}
 use lib.ListN.{length, take}
 use borrow.Author.Needs.{needs}
-use Rattle.text.proofs.Laws.{decimal-length, refusal-length}
 use Rattle.text.specs.Text.{refusalLine}
-use Rattle.listing.specs.Listing.{}
+use Rattle.text.proofs.Laws.{decimal-length, refusal-length}
+use Rattle.text.proofs.Putting.{put-front}
 use Rattle.listing.specs.Bytes.{textAnswer, textLeft}
-use Rattle.listing.proofs.Laws.{}
 use Rattle.lines.proofs.LineLaws.{no-lines}
-use Rattle.listing.proofs.Listed.{put-front}
 use Rattle.listing.proofs.list_refusal.Statement.{statement}
 use Rattle.listing.proofs.list_refusal.Tie as tie
 

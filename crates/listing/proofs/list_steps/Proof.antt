@@ -6,6 +6,7 @@ use native.Mathlib.Omega.{arith}
 use lib.ListN.{length, take, replicate, length-replicate}
 use lib.Seq.{length-take-le}
 use borrow.Author.Needs.{needs}
+use Rattle.text.proofs.Putting.{put-front}
 use Rattle.store.specs.Log.{places}
 use Rattle.schedule.specs.Record.{longest}
 use Rattle.schedule.specs.Schedule.{readSchedule}
@@ -14,7 +15,7 @@ use Rattle.passes.proofs.Passed.{passed}
 use Rattle.listing.specs.Listing.{endLines}
 use Rattle.lines.specs.Lines.{byteLines}
 use Rattle.listing.specs.Bytes.{textAnswer, textLeft}
-use Rattle.listing.proofs.Listed.{put-front, run-bytes, run-small, listed}
+use Rattle.listing.proofs.Listed.{run-bytes, run-small, listed}
 use Rattle.listing.proofs.list_steps.Statement.{statement}
 use Rattle.listing.proofs.list_steps.Tie as tie
 
