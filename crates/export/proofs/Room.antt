@@ -17,7 +17,7 @@ use Rattle.tail.proofs.Tabulate.{length-tabulate}
 use Rattle.layout.specs.Tail.{countBytes, tailLength}
 use Rattle.layout.specs.Low.{lowByte, lowFields, lowTail}
 use Rattle.layout.proofs.Laws.{low-length}
-use Rattle.marker.proofs.TailBytes.{each-length}
+use Rattle.text.proofs.Putting.{each-length}
 use Rattle.export.specs.Types.{Tail}
 use Rattle.export.specs.State.{messageAt, fieldsAt, countAt, tailAt}
 

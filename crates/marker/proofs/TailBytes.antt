@@ -5,7 +5,6 @@ use mathlib.Core.Bool.{true}
 use mathlib.Core.List.{List, [], _∷_, _++_}
 use Prim.Native.Nat.{ℕ, zero, suc, _+_, _*_, _%_, _≤_, _<_}
 use native.Mathlib.Decide.{decLt}
-use native.Mathlib.Nat.{zero-mul, suc-mul}
 use native.Mathlib.Omega.{arith}
 use lib.ListN.{length, getD, length-append, length-replicate}
 use lib.Pow.{pow-mono}
@@ -32,6 +31,7 @@ use Rattle.tail.proofs.Tabulate.{length-tabulate}
 use Rattle.tail.proofs.Follows.{message-tested}
 use Rattle.marker.specs.Types.{Step, Header, Release, ParticipantFields, Tail}
 use Rattle.text.specs.Put.{each}
+use Rattle.text.proofs.Putting.{each-length}
 use Rattle.passes.specs.Pass.{freshOf}
 use Rattle.layout.specs.Tail.{fieldBytes, countBytes, tailBytes, tailLength}
 use Rattle.layout.specs.Low.{lowBytes, lowByte, lowFields, lowTail}
@@ -116,12 +116,6 @@ module _ (r : Release) (small : r .n ≤ places) (five : length (r .messages) �
       }
 
 -- Lengths
-
-pub each-length : {A : Type 0} (f : A → List ℕ) (m : ℕ) → ((x : A) → length (f x) ≡ m) → (xs : List A) → length (each f xs) ≡ length xs * m
-unfolding each
-each-length f m h [] = sym (zero-mul m)
-each-length f m h (x ∷ xs) =
-    length-append (f x) (each f xs) ∙ omega (arith, h x, each-length f m h xs, suc-mul (length xs) m)
 
 pub participants-length : (r : Release) → length (each fieldBytes (tabulate places (fieldsOf r))) ≡ 32
 participants-length r =

@@ -1,8 +1,8 @@
 -- Bytes put one after the other: two parts, and a loop over a list. Assumes nothing.
 use mathlib.Core.Path.{_≡_, refl, sym, ap, ap₂, subst, _∙_}
 use mathlib.Core.List.{List, [], _∷_, _++_, append-nil, append-assoc}
-use Prim.Native.Nat.{ℕ, suc, _+_, _≤_, _<_}
-use native.Mathlib.Nat.{add-zero}
+use Prim.Native.Nat.{ℕ, suc, _+_, _*_, _≤_, _<_}
+use native.Mathlib.Nat.{add-zero, zero-mul, suc-mul}
 use native.Mathlib.Numerals.{add-one}
 use native.Mathlib.Omega.{arith}
 use lib.ListN.{length, getD, take, drop, length-append, drop-of-length-le}
@@ -37,6 +37,12 @@ each-append f (x ∷ xs) ys = ap (λ l. f x ++ l) (each-append f xs ys) ∙ sym 
 pub each-more : {A : Type 0} (f : A → List ℕ) (xs : List A) (x : A) → each f (xs ++ (x ∷ [])) ≡ each f xs ++ f x
 unfolding each
 each-more f xs x = each-append f xs (x ∷ []) ∙ ap (λ l. each f xs ++ l) (append-nil (f x))
+
+-- each of one length
+pub each-length : {A : Type 0} (f : A → List ℕ) (m : ℕ) → ((x : A) → length (f x) ≡ m) → (xs : List A) → length (each f xs) ≡ length xs * m
+unfolding each
+each-length f m h [] = sym (zero-mul m)
+each-length f m h (x ∷ xs) = length-append (f x) (each f xs) ∙ omega (arith, h x, each-length f m h xs, suc-mul (length xs) m)
 
 -- A loop that puts the bytes of each element
 
