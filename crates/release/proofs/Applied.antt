@@ -5,23 +5,25 @@ use mathlib.Core.List.{List, [], _∷_}
 use Prim.Native.Nat.{ℕ, zero, suc, _-_, _≤_, _<_}
 use native.Mathlib.Omega.{arith}
 use lib.Dec.{eqb}
-use lib.ListN.{getD, set}
+use lib.ListN.{length, getD, set}
 use borrow.Author.Tests.{ne-eqb}
 use Rattle.mask.specs.Mask.{has, remove}
 use Rattle.mask.proofs.Laws.{remove-absent}
-use Rattle.store.specs.Log.{places, empty, perform}
+use Rattle.store.specs.Log.{places, perform}
 use Rattle.participant.specs.Participant
 use Rattle.coordinator.specs.Coordinator
 use Rattle.kind.specs.Step.{inRange}
-use Rattle.rules.specs.State.{waiting, participantOf, logOf, messagePlace, maskOf, inFlight}
+use Rattle.rules.specs.State.{types, waiting, participantOf, logOf, messagePlace, maskOf, inFlight}
 use Rattle.rules.specs.Step as Rules
 use Rattle.rules.specs.Step.{participantTo as ruled-participant, coordinatorTo as ruled-coordinator, participantCalls as ruled-participant-calls, coordinatorCalls as ruled-coordinator-calls}
+use Rattle.rules.specs.Report.{moves}
 use Rattle.rules.proofs.Bounds.{bounds}
+use Rattle.rules.proofs.Idle.{idle-step}
 use Rattle.change.specs.Change as Change
 use Rattle.change.specs.Change.{participantTo, coordinatorTo, participantCalls, coordinatorCalls}
 use Rattle.release.specs.Types.{LogPair, Logged, Performed, Message, Sent, Participant, Transition, NotDue, To, Coordinator, CoordinatorTransition, Step, Outcome, Release, Report}
 use Rattle.release.specs.Types as Types
-use Rattle.release.specs.Applied.{participantPlace, logPlace, caller, named, taken, flight, dropped, sent, counted, partOf, putBack, withMessages, applied}
+use Rattle.release.specs.Applied.{participantPlace, logPlace, caller, named, taken, flight, dropped, sent, counted, partOf, putBack, withMessages, changeOf, applied}
 
 -- what stands at a place, put there again
 same : {A : Type 0} (l : List A) (i : ℕ) (d : A) → set l i (getD l i d) ≡ l
@@ -34,19 +36,16 @@ module _ (i j p : ℕ) (r : Release) where
   abbrev report : Types.Change → Report
   report x = record { outcome = x .outcome; next = putBack i j p x r }
 
-  log-same : set (r .store .logs) j (logOf r j) ≡ r .store .logs
-  log-same = same (r .store .logs) j empty
-
   site-same : set (r .sites) i (record { participant = participantOf r i }) ≡ r .sites
   site-same = same (r .sites) i waiting
 
   unchanged : (o : Outcome) → report (Change.unchanged o (partOf i j r)) ≡ record { outcome = o; next = r }
-  unchanged o = rw (log-same, site-same) refl
+  unchanged o = rw site-same refl
 
   participant-to : (q : Participant) (s : Sent) → report (Change.participantTo q s (partOf i j r)) ≡ Rules.participantTo i q s r
   unfolding participantTo ruled-participant
-  participant-to q Sent.Nothing = rw log-same refl
-  participant-to q (Sent.Sends m) = rw log-same refl
+  participant-to q Sent.Nothing = refl
+  participant-to q (Sent.Sends m) = refl
 
   participant-goes : (t : Transition) → report (Change.participantGoes t (partOf i j r)) ≡ Rules.participantGoes i t r
   participant-goes NotDue = unchanged Outcome.Idle
@@ -54,8 +53,8 @@ module _ (i j p : ℕ) (r : Release) where
 
   coordinator-to : (c : Coordinator) (s : Sent) → report (Change.coordinatorTo c s (partOf i j r)) ≡ Rules.coordinatorTo c s r
   unfolding coordinatorTo ruled-coordinator
-  coordinator-to c Sent.Nothing = rw (log-same, site-same) refl
-  coordinator-to c (Sent.Sends m) = rw (log-same, site-same) refl
+  coordinator-to c Sent.Nothing = rw site-same refl
+  coordinator-to c (Sent.Sends m) = rw site-same refl
 
   coordinator-goes : (t : CoordinatorTransition) → report (Change.coordinatorGoes t (partOf i j r)) ≡ Rules.coordinatorGoes t r
   coordinator-goes CoordinatorTransition.NotDue = unchanged Outcome.Idle
@@ -206,3 +205,17 @@ caller-most n (Step.CallLost p q) g h = let b = bounds n (Step.CallLost p q) h i
 caller-most n (Step.Timeout p) g h = omega arith
 caller-most n (Step.Crash p) g h = omega arith
 caller-most n (Step.Restart p) g h = omega arith
+
+-- a step that is not due leaves the release as it was
+pub idle-applied : (r : Release) (s : Step) → inRange (r .n) s ≡ true → moves (changeOf r s .outcome) ≡ false → Rules.idle r ≡ Rules.step r s
+idle-applied r s h q = sym (idle-step r s (ap (λ t. moves (t .outcome)) (sym (applied-step r s h)) ∙ q))
+
+-- five masks, one by one
+pub five-masks : (l : List ℕ) → length l ≡ types → l ≡ getD l 0 0 ∷ getD l 1 0 ∷ getD l 2 0 ∷ getD l 3 0 ∷ getD l 4 0 ∷ []
+five-masks [] q = absurd (omega (arith, q))
+five-masks (a ∷ []) q = absurd (omega (arith, q))
+five-masks (a ∷ b ∷ []) q = absurd (omega (arith, q))
+five-masks (a ∷ b ∷ c ∷ []) q = absurd (omega (arith, q))
+five-masks (a ∷ b ∷ c ∷ d ∷ []) q = absurd (omega (arith, q))
+five-masks (a ∷ b ∷ c ∷ d ∷ e ∷ []) q = refl
+five-masks (a ∷ b ∷ c ∷ d ∷ e ∷ f ∷ l) q = absurd (omega (arith, q))

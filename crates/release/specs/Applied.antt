@@ -7,7 +7,7 @@ use lib.ListN.{getD, set}
 use Rattle.mask.specs.Mask.{has, insert, remove, full}
 use Rattle.rules.specs.State.{participantOf, logOf, maskAt, messagePlace}
 use Rattle.change.specs.Change.{led}
-use Rattle.release.specs.Types.{Message, Sent, Step, Release, Report, Part, Change}
+use Rattle.release.specs.Types.{LogPair, Store, Message, Sent, Step, Release, Report, Part, Change}
 
 -- the places of the participant and of the log that a step names, and the party whose call it is; 0 where it names none
 
@@ -82,7 +82,11 @@ abbrev pub sent : List ℕ → Sent → Bool → ℕ → ℕ → List ℕ
 sent masks Sent.Nothing all n i = masks
 sent masks (Sent.Sends m) all n i = set masks (messagePlace m) (cond all (full n) (insert i (maskAt masks m)))
 
--- counts of calls
+-- what a call leaves: its log, and one call more
+
+abbrev pub written : Store → ℕ → LogPair → Bool → Store
+written s j l called = cond called (record { logs = set (s .logs) j l }) s
+
 abbrev pub counted : List ℕ → ℕ → Bool → List ℕ
 counted counts p called = cond called (set counts p (getD counts p 0 + 1)) counts
 
@@ -99,7 +103,7 @@ putBack i j p x r =
       coordinator = x .coordinator;
       messages = sent (r .messages) (x .sent) (x .all) (r .n) i;
       sites = set (r .sites) i (record { participant = x .participant });
-      store = record { logs = set (r .store .logs) j (x .log) };
+      store = written (r .store) j (x .log) (x .called);
       calls = counted (r .calls) p (x .called);
     }
 

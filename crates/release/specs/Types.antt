@@ -1,5 +1,6 @@
 -- The types of the layers below that one step of a release names.
 pub use Rattle.store.specs.declared.LogPair.{LogPair}
+pub use Rattle.store.specs.declared.Store.{Store}
 pub use Rattle.store.specs.declared.Logged.{Logged}
 pub use Rattle.store.specs.declared.Performed.{Performed}
 pub use Rattle.participant.specs.declared.Participant.{Participant}

@@ -12,19 +12,20 @@ use rules::Release;
 use rules::Report;
 use rules::Site;
 use rules::TYPES;
-use store::LOGS;
+use store::LogPair;
+use store::Store;
 ghost use mathlib.Core.Path.{_≡_};
 ghost use mathlib.Core.Bool.{true, cond};
 ghost use Prim.Native.Nat.{suc, _-_, _≤_, _<_};
-ghost use lib.ListN.{getD};
+ghost use lib.ListN.{getD, set};
 ghost use Rattle.mask.specs.Mask.{insert, full};
 ghost use Rattle.store.specs.Log.{places};
 ghost use Rattle.kind.specs.Step.{inRange};
-ghost use Rattle.rules.specs.State.{messagePlace};
+ghost use Rattle.rules.specs.State.{messagePlace, maskAt};
 ghost use Rattle.rules.specs.Report.{outcomeNumber, moves};
 ghost use Rattle.rules.specs.Step.{step};
 ghost use Rattle.rules.specs.Run.{countLimit, Countable};
-ghost use Rattle.release.specs.Applied.{participantPlace, logPlace, caller, named, taken, flight, dropped, sent, counted, partOf, putBack, withMessages};
+ghost use Rattle.release.specs.Applied.{participantPlace, logPlace, caller, named, taken, flight, dropped, sent, written, counted, partOf, putBack, withMessages};
 
 // Whether the step was due.
 pub fn moves(o: Outcome) -> bool
@@ -142,16 +143,29 @@ fn taken(s: Step) -> Sent
     }
 }
 
-// Where the mask of a message's type stands.
-fn message_place(m: Message) -> usize
-    ensures { λ k. ⌜ (k ≡ messagePlace m) × (k < 5) ⌝ }
+// The mask of the messages of a type.
+fn mask_at(masks: [u32; TYPES], m: Message) -> u32
+    ensures { λ x. ⌜ x ≡ maskAt masks m ⌝ }
 {
     match m {
-        Message::Request => 0,
-        Message::ReplyYes => 1,
-        Message::ReplyAbort => 2,
-        Message::Commit => 3,
-        Message::Abort => 4,
+        Message::Request => masks[0],
+        Message::ReplyYes => masks[1],
+        Message::ReplyAbort => masks[2],
+        Message::Commit => masks[3],
+        Message::Abort => masks[4],
+    }
+}
+
+// The masks with another one of a type. A case a type, so that each place is a number that the compiler knows.
+fn with_mask(masks: [u32; TYPES], m: Message, x: u32) -> [u32; TYPES]
+    ensures { λ l. ⌜ l ≡ set masks (messagePlace m) x ⌝ }
+{
+    match m {
+        Message::Request => [x, masks[1], masks[2], masks[3], masks[4]],
+        Message::ReplyYes => [masks[0], x, masks[2], masks[3], masks[4]],
+        Message::ReplyAbort => [masks[0], masks[1], x, masks[3], masks[4]],
+        Message::Commit => [masks[0], masks[1], masks[2], x, masks[4]],
+        Message::Abort => [masks[0], masks[1], masks[2], masks[3], x],
     }
 }
 
@@ -161,10 +175,7 @@ fn flight(masks: [u32; TYPES], m: Sent, i: u32) -> bool
 {
     match m {
         Sent::Nothing => false,
-        Sent::Sends(t) => {
-            let k = message_place(t);
-            mask::has(masks[k], i)
-        }
+        Sent::Sends(t) => mask::has(mask_at(masks, t), i),
     }
 }
 
@@ -174,12 +185,7 @@ fn dropped(masks: [u32; TYPES], m: Sent, i: u32) -> [u32; TYPES]
 {
     match m {
         Sent::Nothing => masks,
-        Sent::Sends(t) => {
-            let k = message_place(t);
-            let mut next = masks;
-            next[k] = mask::remove(masks[k], i);
-            next
-        }
+        Sent::Sends(t) => with_mask(masks, t, mask::remove(mask_at(masks, t), i)),
     }
 }
 
@@ -202,12 +208,18 @@ fn sent(masks: [u32; TYPES], m: Sent, all: bool, n: u32, i: u32) -> [u32; TYPES]
 {
     match m {
         Sent::Nothing => masks,
-        Sent::Sends(t) => {
-            let k = message_place(t);
-            let mut next = masks;
-            next[k] = sent_mask(masks[k], all, n, i);
-            next
-        }
+        Sent::Sends(t) => with_mask(masks, t, sent_mask(mask_at(masks, t), all, n, i)),
+    }
+}
+
+// The logs with the one that a call left.
+fn written(store: Store, j: u32, l: LogPair, called: bool) -> Store
+    ensures { λ next. ⌜ next ≡ written store j l called ⌝ }
+{
+    if called {
+        store.with_log(j as usize, l)
+    } else {
+        store
     }
 }
 
@@ -241,7 +253,7 @@ fn put_back(r: Release, masks: [u32; TYPES], i: u32, j: u32, p: u32, x: Change) 
         participant: participant,
     };
     let store = r.store;
-    let written = store.with_log(j as usize, log);
+    let logs = written(store, j, log, x.called);
     let before = r.calls;
     let calls = counted(before, p, x.called);
     Release {
@@ -250,7 +262,7 @@ fn put_back(r: Release, masks: [u32; TYPES], i: u32, j: u32, p: u32, x: Change) 
         coordinator: coordinator,
         messages: messages,
         sites: sites,
-        store: written,
+        store: logs,
         calls: calls,
     }
 }
@@ -274,7 +286,7 @@ fn part_of(r: Release, i: u32, j: u32) -> Part
     }
 }
 
-// One step that a reader yields under a header with n.
+// One step that a reader yields under a header with n. One that is not due leaves the release as it was, and nothing is put back.
 pub fn step(r: Release, s: Step) -> Report
     requires { ⌜ (r .n ≤ places) × (inRange (r .n) s ≡ true) × Countable (r .calls) ⌝ }
     ensures { λ report. ⌜ report ≡ step r s ⌝ }
@@ -284,9 +296,16 @@ pub fn step(r: Release, s: Step) -> Report
     let messages = r.messages;
     let x = led(part_of(r, i, j), s, flight(messages, named(s), i));
     let outcome = x.outcome;
-    let next = put_back(r, dropped(messages, taken(s), i), i, j, caller(s), x);
-    Report {
-        outcome: outcome,
-        next: next,
+    if moves(outcome) {
+        let next = put_back(r, dropped(messages, taken(s), i), i, j, caller(s), x);
+        Report {
+            outcome: outcome,
+            next: next,
+        }
+    } else {
+        Report {
+            outcome: Outcome::Idle,
+            next: r,
+        }
     }
 }

@@ -112,7 +112,7 @@ restart-leads Down = refl
 enters-leads : (c : Coordinator) → coordinatorLeads (Coordinator.enters c) ≡ true
 enters-leads c = enters-cases (λ t. coordinatorLeads t ≡ true) c refl (λ q. refl) (λ q. refl)
 
-receive-moves : (m : Message) (i : ℕ) (r : Release) → moves (receive m i r .outcome) ≡ true
+pub receive-moves : (m : Message) (i : ℕ) (r : Release) → moves (receive m i r .outcome) ≡ true
 receive-moves Message.Request i r = participant-due i (Participant.onRequest (has i (r .votes)) (participantOf r i)) Sent.Nothing r
 receive-moves Message.ReplyYes i r =
     coordinator-goes-moves (Coordinator.onReplyYes (r .n) i (r .coordinator)) r

@@ -20,3 +20,4 @@ pub mod Reached
 pub mod Cut
 pub mod Counts
 pub mod Room
+pub mod Idle

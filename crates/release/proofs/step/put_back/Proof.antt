@@ -12,4 +12,4 @@ put-back-spec =
     (λ c. search needs)
     (λ c κs. search needs)
     (λ c κs. search needs)
-    (λ c. simp (c .counted .ensures, c .before .before .with-log .ensures, c .before .before .before .before .before .sent .ensures)))
+    (λ c. simp (c .counted .ensures, c .before .before .written .ensures, c .before .before .before .before .before .sent .ensures)))
