@@ -1,5 +1,6 @@
 pub mod Types
 pub mod Record
 pub mod Reader
+pub mod Found
 pub mod Schedule
 pub mod RoundTrip

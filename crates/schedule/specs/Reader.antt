@@ -27,13 +27,20 @@ abbrev pub inRangeAfter : Before → Record → Bool
 inRangeAfter Before.Nothing r = recordInRange 0 r
 inRangeAfter (Before.Header h) r = headerInRange h && recordInRange (h .n) r
 
+abbrev pub ranged : Record → Bool → Read
+ranged r good = cond good (Read.Record r (recordLength r)) (refused outOfRange)
+
 abbrev pub bodyAnswer : Before → Record → Read
-bodyAnswer before r = cond (inRangeAfter before r) (Read.Record r (recordLength r)) (refused outOfRange)
+bodyAnswer before r = ranged r (inRangeAfter before r)
+
+-- the record of a kind that the bytes begin with
+abbrev pub recordAt : List ℕ → Kind → Record
+recordAt bytes k = record { kind = k; first = bodyNumber bytes k 1; second = bodyNumber bytes k 2 }
 
 abbrev pub kindAnswer : List ℕ → Before → Kind → Read
 kindAnswer bytes before k =
     cond (leb (length bytes) (bodyLength k)) (refused bodyCutShort)
-    (cond (isPlaced before k) (bodyAnswer before (record { kind = k; first = bodyNumber bytes k 1; second = bodyNumber bytes k 2 })) (refused headerMisplaced))
+    (cond (isPlaced before k) (bodyAnswer before (recordAt bytes k)) (refused headerMisplaced))
 
 abbrev pub readerAnswers : List ℕ → Before → Read
 readerAnswers bytes before =

@@ -5,3 +5,4 @@ pub use Rattle.schedule.specs.declared.Header.{Header}
 pub use Rattle.schedule.specs.declared.Record.{Record}
 pub use Rattle.schedule.specs.declared.reader.Before.{Before}
 pub use Rattle.schedule.specs.declared.reader.Read.{Read}
+pub use Rattle.schedule.specs.declared.reader.Found.{Found}

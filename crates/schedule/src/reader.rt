@@ -11,7 +11,9 @@ ghost use mathlib.Core.Path.{_≡_};
 ghost use Prim.Native.Nat.{_<_};
 ghost use lib.ListN.{length};
 ghost use Rattle.kind.specs.Kind.{bodyLength};
-ghost use Rattle.schedule.specs.Reader.{bodyNumber, isPlaced, inRangeAfter, kindAnswer, readerAnswers};
+ghost use Rattle.schedule.specs.Reader.{bodyNumber, recordAt, inRangeAfter, ranged, readerAnswers};
+ghost use Rattle.schedule.specs.Found.{kindAt};
+ghost use Rattle.schedule.specs.declared.reader.Before.{Before};
 
 // The header that came before a record, or none.
 pub enum Before {
@@ -25,25 +27,29 @@ pub enum Read {
     Refused(u32, usize),
 }
 
-impl Before {
-    // Whether a record of this kind may come: the header first, and only there.
-    fn admits(self, kind: Kind) -> bool
-        ensures { λ b. ⌜ b ≡ isPlaced self kind ⌝ }
-    {
-        match self {
-            Before::Nothing => kind.is_header(),
-            Before::Header(_) => if kind.is_header() { false } else { true },
-        }
-    }
+// The kind of a record, where all of its body is there; or a refusal's number.
+enum Found {
+    Known(Kind),
+    Refused(u32),
+}
 
-    // Whether the record's numbers are in range. A header that is out of range itself is not trusted.
-    fn in_range(self, r: Record) -> bool
-        ensures { λ b. ⌜ b ≡ inRangeAfter self r ⌝ }
-    {
-        match self {
-            Before::Nothing => r.in_range(0),
-            Before::Header(h) => if h.in_range() { r.in_range(h.n) } else { false },
+// The kind of the record that the bytes begin with: 1, 2, 3.
+fn kind_at(bytes: &[u8]) -> Found
+    ensures { λ x. ⌜ x ≡ kindAt (now (bytes .entry)) ⌝ }
+{
+    if bytes.len() == 0 {
+        return Found::Refused(EMPTY_OR_TOO_LONG);
+    }
+    let number = bytes[0] as u32;
+    let kind = Kind::of(number);
+    if kind.number() == number {
+        if bytes.len() <= Kind::body(kind) {
+            Found::Refused(BODY_CUT_SHORT)
+        } else {
+            Found::Known(kind)
         }
+    } else {
+        Found::Refused(UNKNOWN_KIND)
     }
 }
 
@@ -59,28 +65,67 @@ fn body_number(bytes: &[u8], kind: Kind, i: usize) -> u32
     }
 }
 
-// A record whose kind is known: 3, 4, 5.
-fn read_kind(bytes: &[u8], before: Before, kind: Kind) -> Read
-    ensures { λ x. ⌜ x ≡ kindAnswer (now (bytes .entry)) before kind ⌝ }
+// The record of a kind.
+fn record_at(bytes: &[u8], kind: Kind) -> Record
+    requires { ⌜ bodyLength kind < length (now bytes) ⌝ }
+    ensures { λ r. ⌜ r ≡ recordAt (now (bytes .entry)) kind ⌝ }
 {
-    if bytes.len() <= Kind::body(kind) {
-        return Read::Refused(BODY_CUT_SHORT, 0);
-    }
-    let r = Record {
+    Record {
         kind: kind,
         first: body_number(bytes, kind, 1),
         second: body_number(bytes, kind, 2),
-    };
-    let placed = before.admits(kind);
-    let ranged = before.in_range(r);
-    if placed {
-        if ranged {
-            Read::Record(r, r.length())
-        } else {
-            Read::Refused(OUT_OF_RANGE, 0)
-        }
+    }
+}
+
+// A record in its place: 5.
+fn ranged(r: Record, good: bool) -> Read
+    ensures { λ x. ⌜ x ≡ ranged r good ⌝ }
+{
+    if good {
+        Read::Record(r, r.length())
     } else {
-        Read::Refused(HEADER_MISPLACED, 0)
+        Read::Refused(OUT_OF_RANGE, 0)
+    }
+}
+
+// The first record: the header comes first.
+fn read_header(bytes: &[u8]) -> Read
+    ensures { λ x. ⌜ x ≡ readerAnswers (now (bytes .entry)) Before.Nothing ⌝ }
+{
+    match kind_at(bytes) {
+        Found::Refused(k) => Read::Refused(k, 0),
+        Found::Known(kind) => {
+            if kind.is_header() {
+                let r = record_at(bytes, kind);
+                ranged(r, r.header().in_range())
+            } else {
+                Read::Refused(HEADER_MISPLACED, 0)
+            }
+        }
+    }
+}
+
+// Whether the header has the record's numbers in range. A header that is out of range itself is not trusted.
+fn in_range_under(h: Header, r: Record) -> bool
+    ensures { λ b. ⌜ b ≡ inRangeAfter (Before.Header h) r ⌝ }
+{
+    if h.in_range() { r.in_range(h.n) } else { false }
+}
+
+// A record after the header: the header is only there.
+fn read_step(bytes: &[u8], h: Header) -> Read
+    ensures { λ x. ⌜ x ≡ readerAnswers (now (bytes .entry)) (Before.Header h) ⌝ }
+{
+    match kind_at(bytes) {
+        Found::Refused(k) => Read::Refused(k, 0),
+        Found::Known(kind) => {
+            if kind.is_header() {
+                Read::Refused(HEADER_MISPLACED, 0)
+            } else {
+                let r = record_at(bytes, kind);
+                ranged(r, in_range_under(h, r))
+            }
+        }
     }
 }
 
@@ -88,14 +133,8 @@ fn read_kind(bytes: &[u8], before: Before, kind: Kind) -> Read
 pub fn read_record(bytes: &[u8], before: Before) -> Read
     ensures { λ x. ⌜ x ≡ readerAnswers (now (bytes .entry)) before ⌝ }
 {
-    if bytes.len() == 0 {
-        return Read::Refused(EMPTY_OR_TOO_LONG, 0);
-    }
-    let number = bytes[0] as u32;
-    let kind = Kind::of(number);
-    if kind.number() == number {
-        read_kind(bytes, before, kind)
-    } else {
-        Read::Refused(UNKNOWN_KIND, 0)
+    match before {
+        Before::Nothing => read_header(bytes),
+        Before::Header(h) => read_step(bytes, h),
     }
 }

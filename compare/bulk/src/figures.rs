@@ -1,0 +1,179 @@
+//! What the compared cases amount to, so that nobody needs to trust that they mean something.
+
+use crate::schedules::records;
+use second::Refusal;
+use std::fmt;
+
+/// The length of a report's tail, and the place of the counts of calls in it.
+const TAIL: usize = 59;
+const COUNTS: usize = 41;
+
+/// How often each refusal number was answered; 0 is no refusal.
+#[derive(Clone, Copy, Default)]
+pub struct Numbers([u64; 10]);
+
+impl Numbers {
+    pub fn note(&mut self, number: u32) {
+        self.0[number as usize] += 1;
+    }
+
+    pub fn add(&mut self, other: &Numbers) {
+        add(&mut self.0, &other.0);
+    }
+
+    pub fn total(&self) -> u64 {
+        self.0.iter().sum()
+    }
+}
+
+impl fmt::Display for Numbers {
+    fn fmt(&self, to: &mut fmt::Formatter) -> fmt::Result {
+        write!(to, "{} accepted", self.0[0])?;
+        for (number, count) in self.0.iter().enumerate().skip(1) {
+            if *count > 0 {
+                write!(to, ", {count} refused {number}")?;
+            }
+        }
+        Ok(())
+    }
+}
+
+/// Adds the counts of `other` place by place.
+pub fn add(counts: &mut [u64], other: &[u64]) {
+    for (count, more) in counts.iter_mut().zip(other) {
+        *count += more;
+    }
+}
+
+/// How often each kind from 02 to 0A was due.
+pub fn due_words(due: &[u64; 11]) -> String {
+    let counted = due.iter().enumerate().skip(2);
+    let words: Vec<String> = counted.map(|(kind, n)| format!("{kind:02X} {n}")).collect();
+    format!("due {}", words.join(" "))
+}
+
+/// The figures of whole schedules. All are taken from the schedules and the reports that both sides
+/// agree on.
+#[derive(Clone, Copy, Default)]
+pub struct ScheduleFigures {
+    numbers: Numbers,
+    report_bytes: [u64; 4],
+    due: [u64; 11],
+    with_commit: u64,
+    with_abort: u64,
+    longest: u64,
+    most_calls: u16,
+    coordinators_ended: Ended,
+    participants_ended: Ended,
+}
+
+/// Terminations that a call ended.
+#[derive(Clone, Copy, Default)]
+struct Ended {
+    commit: u64,
+    abort: u64,
+    commit_of_eight: u64,
+    abort_of_eight: u64,
+}
+
+impl Ended {
+    fn note(&mut self, n: u8, byte: u8) {
+        let eight = u64::from(n == 8);
+        if byte == 2 {
+            self.commit += 1;
+            self.commit_of_eight += eight;
+        } else {
+            self.abort += 1;
+            self.abort_of_eight += eight;
+        }
+    }
+
+    fn add(&mut self, other: &Ended) {
+        self.commit += other.commit;
+        self.abort += other.abort;
+        self.commit_of_eight += other.commit_of_eight;
+        self.abort_of_eight += other.abort_of_eight;
+    }
+}
+
+impl fmt::Display for Ended {
+    fn fmt(&self, to: &mut fmt::Formatter) -> fmt::Result {
+        write!(
+            to,
+            "{} commit ({} under n = 8), {} abort ({} under n = 8)",
+            self.commit, self.commit_of_eight, self.abort, self.abort_of_eight
+        )
+    }
+}
+
+impl ScheduleFigures {
+    pub fn note(&mut self, schedule: &[u8], report: &Result<Vec<u8>, Refusal>) {
+        match report {
+            Err(refusal) => self.numbers.note(refusal.number),
+            Ok(report) => self.note_accepted(schedule, report),
+        }
+    }
+
+    fn note_accepted(&mut self, schedule: &[u8], report: &[u8]) {
+        self.numbers.note(0);
+        self.longest = self.longest.max(schedule.len() as u64);
+        let (bytes, tail) = report.split_at(report.len() - TAIL);
+        let calls = tail[COUNTS..].chunks_exact(2);
+        let most = calls.map(|count| u16::from_le_bytes([count[0], count[1]]));
+        self.most_calls = self.most_calls.max(most.max().unwrap_or(0));
+        self.with_commit += u64::from(bytes.contains(&2));
+        self.with_abort += u64::from(bytes.contains(&3));
+        for (record, byte) in records(&schedule[3..]).zip(bytes) {
+            self.note_step(schedule[1], record, *byte);
+        }
+    }
+
+    fn note_step(&mut self, n: u8, record: &[u8], byte: u8) {
+        self.report_bytes[usize::from(byte)] += 1;
+        self.due[usize::from(record[0])] += u64::from(byte > 0);
+        // A call on another's log that brings a decision ends a termination.
+        match *record {
+            [6, 0, _] if byte >= 2 => self.coordinators_ended.note(n, byte),
+            [6, party, log] if byte >= 2 && party != log => self.participants_ended.note(n, byte),
+            _ => (),
+        }
+    }
+
+    pub fn add(&mut self, other: &ScheduleFigures) {
+        self.numbers.add(&other.numbers);
+        add(&mut self.report_bytes, &other.report_bytes);
+        add(&mut self.due, &other.due);
+        self.with_commit += other.with_commit;
+        self.with_abort += other.with_abort;
+        self.longest = self.longest.max(other.longest);
+        self.most_calls = self.most_calls.max(other.most_calls);
+        self.coordinators_ended.add(&other.coordinators_ended);
+        self.participants_ended.add(&other.participants_ended);
+    }
+
+    pub fn schedules(&self) -> u64 {
+        self.numbers.total()
+    }
+}
+
+impl fmt::Display for ScheduleFigures {
+    fn fmt(&self, to: &mut fmt::Formatter) -> fmt::Result {
+        let [idle, moved, commit, abort] = self.report_bytes;
+        write!(
+            to,
+            "{} schedules, of these {}; up to {} bytes and {} calls of a party; \
+             {} with a commit, {} with an abort; \
+             steps: {idle} idle, {moved} moved, {commit} commit, {abort} abort; {}; \
+             terminations that a call ended: coordinator {}, participant {}",
+            self.schedules(),
+            self.numbers,
+            self.longest,
+            self.most_calls,
+            self.with_commit,
+            self.with_abort,
+            due_words(&self.due),
+            self.coordinators_ended,
+            self.participants_ended
+        )
+    }
+}

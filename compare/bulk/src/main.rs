@@ -1,0 +1,119 @@
+//! Compares the proved program with the second program, which was written apart from it, on very
+//! many inputs. Every case follows from the seed. The first difference is reduced and printed, and
+//! the program ends with status 1.
+
+#![deny(unsafe_code)]
+
+mod buffers;
+mod difference;
+mod entries;
+mod figures;
+mod frames;
+mod host;
+mod jobs;
+mod lent;
+mod lines;
+#[allow(unsafe_code)]
+mod proved;
+mod random;
+mod reduce;
+mod replay;
+mod schedules;
+mod states;
+mod steps;
+mod whole;
+
+use difference::Difference;
+use replay::Programs;
+use std::env;
+use std::fmt::Display;
+use std::process::ExitCode;
+
+const USAGE: &str =
+    "usage: bulk quick | bulk long CASES [SEED] | bulk frames short|longest|terminations";
+const SEED: u64 = 20_260_101;
+/// How many random schedules the quick form has.
+const QUICK: usize = 300_000;
+
+fn main() -> ExitCode {
+    let words: Vec<String> = env::args().skip(1).collect();
+    if let [form, job] = &words[..] {
+        if form == "frames" {
+            return write_frames(job);
+        }
+    }
+    let Some((cases, seed)) = asked(&words) else {
+        eprintln!("{USAGE}");
+        return ExitCode::from(2);
+    };
+    println!("seed {seed}");
+    match compare(cases, seed) {
+        Ok((schedules, calls)) => {
+            println!(
+                "compared: {schedules} schedules, {calls} further calls, \
+                 no difference (seed {seed})"
+            );
+            ExitCode::SUCCESS
+        }
+        Err((group, difference)) => {
+            println!("DIFFERENCE in group {group} (seed {seed}, {cases} cases)\n{difference}");
+            ExitCode::FAILURE
+        }
+    }
+}
+
+/// The frames that `bench/run` times programs on.
+fn write_frames(job: &str) -> ExitCode {
+    match frames::write(job) {
+        Some(Ok(())) => ExitCode::SUCCESS,
+        Some(Err(error)) => {
+            eprintln!("bulk: {error}");
+            ExitCode::FAILURE
+        }
+        None => {
+            eprintln!("{USAGE}");
+            ExitCode::from(2)
+        }
+    }
+}
+
+/// How many random schedules are asked for, and the seed.
+fn asked(words: &[String]) -> Option<(usize, u64)> {
+    let words: Vec<&str> = words.iter().map(String::as_str).collect();
+    match words[..] {
+        ["quick"] => Some((QUICK, SEED)),
+        ["long", cases] => Some((cases.parse().ok()?, SEED)),
+        ["long", cases, seed] => Some((cases.parse().ok()?, seed.parse().ok()?)),
+        _ => None,
+    }
+}
+
+/// Runs every group; the further counts are in proportion to that of the random schedules.
+fn compare(cases: usize, seed: u64) -> Result<(u64, u64), (&'static str, Difference)> {
+    let programs = Programs::find();
+    let random = shown("1, random schedules", whole::random(&programs, seed, cases))?;
+    let every = shown("2, every short schedule", whole::every(&programs))?;
+    let damaged = whole::damaged(&programs, seed, cases / 2);
+    let damaged = shown("3, damaged schedules", damaged)?;
+    let buffers = buffers::compare(&programs, seed, cases / 150);
+    let buffers = shown("4, run and listing into lent buffers", buffers)?;
+    let host = shown("5, the host entry", host::compare(seed, cases * 10))?;
+    let entries = shown(
+        "6, writer, reader and log entries",
+        entries::compare(seed, cases),
+    )?;
+    let steps = shown("7, the single step", steps::compare(seed, cases / 100))?;
+    let schedules = random.schedules() + every.schedules() + damaged.schedules();
+    let calls = buffers.calls() + host.calls() + entries.calls() + steps.calls();
+    Ok((schedules, calls))
+}
+
+/// Prints the group's figures, or names the group that has the difference.
+fn shown<T: Display>(
+    group: &'static str,
+    outcome: Result<T, Difference>,
+) -> Result<T, (&'static str, Difference)> {
+    let figures = outcome.map_err(|difference| (group, difference))?;
+    println!("{group}: {figures}");
+    Ok(figures)
+}

@@ -1,0 +1,72 @@
+//! Runs many schedules: reads frames of a two-byte length, low byte first, and a schedule, and
+//! prints one line for each, the report in hexadecimal or the refusal.
+
+use std::io::{self, BufRead, BufReader, ErrorKind, Read, Write};
+
+use second::{run, Refusal};
+
+const INPUT_BLOCK: usize = 1 << 20;
+const OUTPUT_BLOCK: usize = 1 << 20;
+const MOST_FRAME_BYTES: usize = 65_535;
+/// A report of a step for each of 32,768 bytes and a tail of 59 would fit.
+const MOST_REPORT_BYTES: usize = 32_768 + 59;
+
+const DIGITS: &[u8; 16] = b"0123456789abcdef";
+
+fn main() -> io::Result<()> {
+    let mut input = BufReader::with_capacity(INPUT_BLOCK, io::stdin().lock());
+    let mut output = io::stdout().lock();
+    let mut lines = Vec::with_capacity(2 * OUTPUT_BLOCK);
+    let mut frame = vec![0; MOST_FRAME_BYTES];
+    let mut report = vec![0; MOST_REPORT_BYTES];
+    while !input.fill_buf()?.is_empty() {
+        let Some(length) = read_frame(&mut input, &mut frame)? else {
+            lines.extend_from_slice(b"incomplete frame\n");
+            break;
+        };
+        match run(&frame[..length], &mut report) {
+            Ok(written) => put_hexadecimal(&mut lines, &report[..written]),
+            Err(refusal) => put_refusal(&mut lines, refusal)?,
+        }
+        lines.push(b'\n');
+        if lines.len() >= OUTPUT_BLOCK {
+            output.write_all(&lines)?;
+            lines.clear();
+        }
+    }
+    output.write_all(&lines)?;
+    output.flush()
+}
+
+/// The length of the next frame, now in `frame`; nothing if the input ends inside it.
+fn read_frame(input: &mut impl Read, frame: &mut [u8]) -> io::Result<Option<usize>> {
+    let mut length = [0; 2];
+    if !read_whole(input, &mut length)? {
+        return Ok(None);
+    }
+    let length = usize::from(u16::from_le_bytes(length));
+    let is_whole = read_whole(input, &mut frame[..length])?;
+    Ok(is_whole.then_some(length))
+}
+
+/// Whether the input had bytes for all of `lent`.
+fn read_whole(input: &mut impl Read, lent: &mut [u8]) -> io::Result<bool> {
+    match input.read_exact(lent) {
+        Ok(()) => Ok(true),
+        Err(error) if error.kind() == ErrorKind::UnexpectedEof => Ok(false),
+        Err(error) => Err(error),
+    }
+}
+
+fn put_hexadecimal(lines: &mut Vec<u8>, report: &[u8]) {
+    let place = lines.len();
+    lines.resize(place + 2 * report.len(), 0);
+    for (pair, &byte) in lines[place..].chunks_exact_mut(2).zip(report) {
+        pair[0] = DIGITS[usize::from(byte >> 4)];
+        pair[1] = DIGITS[usize::from(byte & 15)];
+    }
+}
+
+fn put_refusal(lines: &mut Vec<u8>, refusal: Refusal) -> io::Result<()> {
+    write!(lines, "refused {} at {}", refusal.number, refusal.value)
+}

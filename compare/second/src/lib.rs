@@ -1,0 +1,26 @@
+//! A second implementation of document 01: the store, the participant, the coordinator, the reader
+//! and writer of schedules, the marker that runs a schedule of one release, and the host entry.
+
+mod coordinator;
+mod host;
+mod listing;
+mod marker;
+mod mask;
+mod message;
+pub mod model;
+mod participant;
+mod refusal;
+mod release;
+mod report;
+mod schedule;
+mod store;
+mod tail;
+
+pub use host::host_step;
+pub use listing::listing;
+pub use marker::run;
+pub use refusal::Refusal;
+pub use release::{is_due, single_step};
+pub use schedule::{read_record, write_record, Header, Record};
+pub use store::{log_entry, log_once_entry, Log};
+pub use tail::{ParticipantFields, Tail};

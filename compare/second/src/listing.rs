@@ -1,0 +1,59 @@
+//! The listing that program `mark` prints for a schedule.
+
+use crate::marker::run;
+use crate::report;
+use crate::schedule::MOST_BYTES;
+use crate::store;
+use crate::tail::{Tail, TAIL_LENGTH};
+
+/// What program `mark` prints for this schedule, every line ended by a newline.
+pub fn listing(schedule: &[u8]) -> String {
+    // A step takes at least one byte, so no report is longer.
+    let mut buffer = vec![0; MOST_BYTES + TAIL_LENGTH];
+    match run(schedule, &mut buffer) {
+        Err(refusal) => format!("refused {} at {}\n", refusal.number, refusal.value),
+        Ok(length) => report_lines(&buffer[..length]),
+    }
+}
+
+fn report_lines(report: &[u8]) -> String {
+    let Some((steps, tail_bytes)) = report.split_last_chunk::<TAIL_LENGTH>() else {
+        return String::new();
+    };
+    let tail = Tail::from_bytes(tail_bytes);
+    let mut text = String::new();
+    for (at, step) in steps.iter().enumerate() {
+        text += &format!("{} {}\n", at + 1, step_word(*step));
+    }
+    let n = tail.n as usize;
+    text += "calls";
+    for count in &tail.calls[..=n] {
+        text += &format!(" {count}");
+    }
+    text += "\nlogs";
+    for fields in &tail.participants[..n] {
+        text.push(' ');
+        text.push(record_letter(fields.first));
+        text.push(record_letter(fields.last));
+    }
+    text.push('\n');
+    text
+}
+
+fn step_word(step: u8) -> &'static str {
+    match step {
+        report::IDLE => "idle",
+        report::MOVED => "moved",
+        report::COMMIT => "commit",
+        _ => "abort",
+    }
+}
+
+fn record_letter(record: u32) -> char {
+    match record {
+        store::NONE => '-',
+        store::YES => 'y',
+        store::ABORT => 'a',
+        _ => 'c',
+    }
+}

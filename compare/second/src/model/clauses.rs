@@ -1,0 +1,118 @@
+//! The clauses that are looked at after every step: the reported decisions, and the logs.
+
+use crate::model::state::Taken;
+use crate::participant::{CLOSING, RECORDING_ABORT, RECORDING_COMMIT, TERMINATING, VOTING_YES};
+use crate::report;
+use crate::schedule::{CALL_ANSWERED, CALL_ANSWER_LOST};
+use crate::store::{Log, ABORT, COMMIT, NONE, YES};
+use crate::tail::Tail;
+
+type Clause = Result<(), &'static str>;
+
+const DECISIONS_AGREE: &str = "no two reported decisions differ";
+const COMMIT_NEEDS_YES: &str =
+    "a commit is reported only when the first record of every log is a yes";
+const ABORT_NEEDS_ABORT: &str =
+    "an abort is reported only when some log's first record is an abort";
+const NOT_DUE_LEAVES_ALL: &str = "a step not due changes nothing";
+const CALL_BY_ITS_RULE: &str = "a due store call leaves its log as its rule says";
+const LOGS_KEPT: &str = "only a due store call changes a log, and only its own";
+const LOST_ANSWER_UNHEARD: &str = "a lost answer changes nothing but the log";
+const NO_ABORT: &str = "with all votes yes and no timeout or restart, no abort is ever reported";
+
+/// Checks one step of an exploration with all steps.
+pub fn check_step(taken: &Taken) -> Clause {
+    let Some(report) = taken.report else {
+        return holds(taken.after == *taken.before, NOT_DUE_LEAVES_ALL);
+    };
+    match report {
+        report::COMMIT => check_commit(taken)?,
+        report::ABORT => check_abort(taken)?,
+        _ => (),
+    }
+    check_logs(taken)
+}
+
+/// Checks one step of an exploration without timeouts and restarts, all votes being yes.
+pub fn check_no_abort(taken: &Taken) -> Clause {
+    holds(taken.report != Some(report::ABORT), NO_ABORT)
+}
+
+fn holds(condition: bool, clause: &'static str) -> Clause {
+    if condition {
+        return Ok(());
+    }
+    Err(clause)
+}
+
+fn check_commit(taken: &Taken) -> Clause {
+    let tail = &taken.after.tail;
+    holds(taken.before.reported != report::ABORT, DECISIONS_AGREE)?;
+    let all_yes = (1..=tail.n).all(|log| tail.log(log).first == YES);
+    holds(all_yes, COMMIT_NEEDS_YES)
+}
+
+fn check_abort(taken: &Taken) -> Clause {
+    let tail = &taken.after.tail;
+    holds(taken.before.reported != report::COMMIT, DECISIONS_AGREE)?;
+    let some_abort = (1..=tail.n).any(|log| tail.log(log).first == ABORT);
+    holds(some_abort, ABORT_NEEDS_ABORT)
+}
+
+/// Checks what a due step does to the logs.
+fn check_logs(taken: &Taken) -> Clause {
+    let (before, after) = (&taken.before.tail, &taken.after.tail);
+    let is_call = matches!(taken.step.kind, CALL_ANSWERED | CALL_ANSWER_LOST);
+    let (party, called) = (taken.step.first, taken.step.second);
+    for log in 1..=before.n {
+        if is_call && log == called {
+            let expected = log_by_rule(before, party, before.log(log));
+            holds(after.log(log) == expected, CALL_BY_ITS_RULE)?;
+        } else {
+            holds(after.log(log) == before.log(log), LOGS_KEPT)?;
+        }
+    }
+    if taken.step.kind == CALL_ANSWER_LOST {
+        return holds(
+            without_logs(after) == without_logs(before),
+            LOST_ANSWER_UNHEARD,
+        );
+    }
+    Ok(())
+}
+
+/// The log after the call that this party makes in its state, written out once more so that it
+/// does not rest on the store's own functions.
+fn log_by_rule(tail: &Tail, party: u32, log: Log) -> Log {
+    if party == 0 {
+        return after_log_once(log, ABORT);
+    }
+    match tail.participant(party).state {
+        VOTING_YES => after_log_once(log, YES),
+        CLOSING | TERMINATING => after_log_once(log, ABORT),
+        RECORDING_COMMIT => Log {
+            last: COMMIT,
+            ..log
+        },
+        RECORDING_ABORT => Log { last: ABORT, ..log },
+        _ => log,
+    }
+}
+
+fn after_log_once(log: Log, record: u32) -> Log {
+    if log.first != NONE {
+        return log;
+    }
+    Log {
+        first: record,
+        last: record,
+    }
+}
+
+fn without_logs(tail: &Tail) -> Tail {
+    let mut tail = *tail;
+    for fields in &mut tail.participants {
+        (fields.first, fields.last) = (NONE, NONE);
+    }
+    tail
+}

@@ -1,0 +1,60 @@
+//! Helpers of several test files.
+
+// Each test file uses a part of these.
+#![allow(dead_code)]
+
+use second::{Header, Record, Tail};
+
+/// The bytes of a text such as `01 0A FF`.
+pub fn bytes(text: &str) -> Vec<u8> {
+    text.split_whitespace()
+        .map(|digits| u8::from_str_radix(digits, 16).expect("two hexadecimal digits"))
+        .collect()
+}
+
+/// Every step that the reader yields under this n.
+pub fn steps(n: u32) -> Vec<Record> {
+    let step = |kind, first, second| Record {
+        kind,
+        first,
+        second,
+    };
+    let mut steps = vec![step(0x02, 0, 0)];
+    for participant in 1..=n {
+        for message in 1..=5 {
+            steps.extend([0x03, 0x04, 0x05].map(|kind| step(kind, message, participant)));
+        }
+    }
+    for party in 0..=n {
+        for log in 1..=n {
+            steps.extend([0x06, 0x07].map(|kind| step(kind, party, log)));
+        }
+        steps.extend([0x08, 0x09, 0x0A].map(|kind| step(kind, party, 0)));
+    }
+    steps
+}
+
+/// Every header that a schedule may carry.
+pub fn headers() -> Vec<Header> {
+    (1..=8)
+        .flat_map(|n| (0..1 << n).map(move |votes| Header { n, votes }))
+        .collect()
+}
+
+pub fn fresh(n: u32, votes: u32) -> Tail {
+    Tail::fresh(Header { n, votes })
+}
+
+/// Numbers that repeat from one test run to the next.
+pub struct Numbers(pub u64);
+
+impl Numbers {
+    /// A number below `limit`.
+    pub fn below(&mut self, limit: usize) -> usize {
+        self.0 = self
+            .0
+            .wrapping_mul(6_364_136_223_846_793_005)
+            .wrapping_add(1_442_695_040_888_963_407);
+        (self.0 >> 33) as usize % limit
+    }
+}

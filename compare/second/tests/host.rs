@@ -1,0 +1,245 @@
+//! The host entry: its rules, its refusals and their order, and its agreement with a step of a
+//! whole release.
+
+mod common;
+
+use common::fresh;
+use second::{host_step, single_step, Tail};
+
+const NUMBERS: [u32; 14] = [0, 1, 2, 3, 4, 5, 6, 7, 8, 9, 10, 255, 256, u32::MAX];
+
+/// The three bytes that come back, or the refusal's number.
+fn step(n: u32, own: u32, state: (u32, u32), event: (u32, u32, u32)) -> Result<[u8; 3], u32> {
+    let mut out = [0xEE; 5];
+    let number = host_step(
+        n, own, state.0, state.1, event.0, event.1, event.2, &mut out,
+    );
+    assert_eq!(out[3..], [0xEE; 2]);
+    if number != 0 {
+        assert_eq!(out, [0xEE; 5]);
+        return Err(number);
+    }
+    Ok([out[0], out[1], out[2]])
+}
+
+type Case = ((u32, u32), (u32, u32, u32), Result<[u8; 3], u32>);
+
+/// Participant 2 of 3 in these states, with these events.
+fn assert_cases(cases: &[Case]) {
+    for (state, event, expected) in cases {
+        let given = step(3, 2, *state, *event);
+        assert_eq!(given, *expected, "{state:?} {event:?}");
+    }
+}
+
+#[test]
+fn requests_and_decisions() {
+    assert_cases(&[
+        ((0, 0), (1, 1, 0), Ok([1, 0, 0])),
+        ((0, 0), (1, 0, 0), Ok([2, 0, 0])),
+        ((3, 0), (2, 3, 0), Ok([5, 0, 0])),
+        ((3, 0), (2, 2, 0), Ok([6, 0, 0])),
+        ((9, 0), (1, 1, 0), Ok([9, 0, 0])),
+        ((9, 0), (2, 3, 0), Ok([9, 0, 0])),
+        ((4, 1), (1, 0, 0), Ok([4, 1, 0])),
+        ((4, 1), (2, 2, 0), Ok([4, 1, 0])),
+    ]);
+}
+
+#[test]
+fn answers() {
+    assert_cases(&[
+        ((1, 0), (6, 2, 1), Ok([3, 0, 2])),
+        ((1, 0), (6, 2, 2), Ok([8, 0, 3])),
+        ((1, 0), (6, 2, 3), Err(7)),
+        ((1, 0), (6, 1, 1), Err(7)),
+        ((2, 0), (6, 2, 1), Ok([4, 0, 0])),
+        ((2, 0), (6, 2, 2), Ok([8, 0, 3])),
+        ((2, 0), (6, 2, 3), Ok([7, 0, 0])),
+        ((4, 0), (6, 1, 1), Ok([4, 1, 0])),
+        ((4, 1), (6, 1, 1), Err(7)),
+        ((4, 1), (6, 2, 1), Err(7)),
+        ((4, 1), (6, 3, 1), Ok([5, 0, 0])),
+        ((4, 0), (6, 1, 2), Ok([6, 0, 0])),
+        ((4, 0), (6, 1, 3), Ok([5, 0, 0])),
+        ((5, 0), (6, 2, 3), Ok([7, 0, 0])),
+        ((5, 0), (6, 2, 1), Err(7)),
+        ((5, 0), (6, 2, 2), Err(7)),
+        ((6, 0), (6, 2, 2), Ok([8, 0, 0])),
+        ((6, 0), (6, 2, 3), Err(7)),
+    ]);
+}
+
+#[test]
+fn timeouts_crashes_and_restarts() {
+    assert_cases(&[
+        ((0, 0), (3, 0, 0), Ok([2, 0, 0])),
+        ((3, 0), (3, 0, 0), Ok([4, 0, 0])),
+        ((4, 5), (3, 0, 0), Err(5)),
+        ((4, 4), (3, 0, 0), Ok([4, 0, 0])),
+        ((7, 0), (3, 0, 0), Err(7)),
+        ((4, 4), (4, 0, 0), Ok([9, 0, 0])),
+        ((9, 0), (4, 0, 0), Err(7)),
+        ((9, 0), (5, 0, 0), Ok([2, 0, 0])),
+        ((0, 0), (5, 0, 0), Err(7)),
+    ]);
+}
+
+#[test]
+fn a_single_participant_never_terminates() {
+    assert_eq!(step(1, 1, (3, 0), (3, 0, 0)), Ok([5, 0, 0]));
+    assert_eq!(step(1, 1, (2, 0), (6, 1, 1)), Ok([5, 0, 0]));
+    assert_eq!(step(1, 1, (4, 0), (4, 0, 0)), Err(5));
+}
+
+#[test]
+fn numbers_out_of_range() {
+    let cases = [
+        (0, 1, (0, 0), (4, 0, 0)),
+        (9, 1, (0, 0), (4, 0, 0)),
+        (3, 0, (0, 0), (4, 0, 0)),
+        (3, 4, (0, 0), (4, 0, 0)),
+        (3, 2, (10, 0), (4, 0, 0)),
+        (3, 2, (0, 1), (4, 0, 0)),
+        (3, 2, (4, 2), (4, 0, 0)),
+        (3, 2, (4, 5), (4, 0, 0)),
+        (3, 2, (4, 8), (4, 0, 0)),
+        (3, 2, (0, 0), (0, 0, 0)),
+        (3, 2, (0, 0), (7, 0, 0)),
+        (3, 2, (0, 0), (1, 2, 0)),
+        (3, 2, (0, 0), (1, 1, 1)),
+        (3, 2, (0, 0), (2, 1, 0)),
+        (3, 2, (0, 0), (2, 4, 0)),
+        (3, 2, (0, 0), (2, 2, 1)),
+        (3, 2, (0, 0), (3, 1, 0)),
+        (3, 2, (0, 0), (4, 0, 1)),
+        (3, 2, (0, 0), (5, 1, 0)),
+        (3, 2, (1, 0), (6, 0, 1)),
+        (3, 2, (1, 0), (6, 4, 1)),
+        (3, 2, (1, 0), (6, 2, 0)),
+        (3, 2, (1, 0), (6, 2, 4)),
+    ];
+    for (n, own, state, event) in cases {
+        assert_eq!(step(n, own, state, event), Err(5), "{state:?} {event:?}");
+        let (event, detail, record) = event;
+        let alone = host_step(n, own, state.0, state.1, event, detail, record, &mut []);
+        assert_eq!(alone, 5);
+    }
+}
+
+#[test]
+fn buffer_too_short_comes_last() {
+    for length in 0..3 {
+        let mut out = vec![0xEE; length];
+        assert_eq!(host_step(3, 2, 0, 0, 3, 0, 0, &mut out), 6);
+        assert_eq!(host_step(3, 2, 7, 0, 3, 0, 0, &mut out), 7);
+        assert_eq!(host_step(3, 2, 7, 0, 3, 0, 1, &mut out), 5);
+        assert!(out.iter().all(|&byte| byte == 0xEE));
+    }
+}
+
+#[test]
+fn any_numbers_get_an_answer() {
+    for (n, own) in pairs(&NUMBERS) {
+        for (number, event) in pairs(&NUMBERS) {
+            let mut out = [0; 3];
+            host_step(n, own, number, 0, event, number, 0, &mut out);
+            host_step(n, own, 4, number, event, number, 1, &mut out);
+            host_step(n, own, number, number, 6, n, number, &mut out);
+        }
+    }
+}
+
+fn pairs(numbers: &[u32]) -> impl Iterator<Item = (u32, u32)> + '_ {
+    numbers
+        .iter()
+        .flat_map(move |&first| numbers.iter().map(move |&second| (first, second)))
+}
+
+/// A release whose participant `own` has this state, with its vote and all messages to it in
+/// flight.
+fn release(n: u32, own: u32, state: (u32, u32), vote: u32) -> Tail {
+    let bit = 1 << (own - 1);
+    let mut tail = fresh(n, vote * bit);
+    tail.messages = [bit, 0, 0, bit, bit];
+    let fields = &mut tail.participants[own as usize - 1];
+    (fields.state, fields.heard) = state;
+    tail
+}
+
+/// The same event as a step of the release, in the form of the host's three bytes.
+fn release_step(tail: &Tail, own: u32, (event, detail): (u32, u32)) -> Result<[u8; 3], u32> {
+    let (kind, first, second) = match (event, detail) {
+        (1, _) => (0x03, 1, own),
+        (2, 3) => (0x03, 4, own),
+        (2, _) => (0x03, 5, own),
+        (6, log) => (0x06, own, log),
+        _ => (0x05 + event, own, 0),
+    };
+    let (after, _) = single_step(tail, kind, first, second)?;
+    let fields = after.participants[own as usize - 1];
+    let bit = 1 << (own - 1);
+    let sent = (2..=3).find(|&message: &u32| after.messages[message as usize - 1] & bit != 0);
+    Ok([
+        fields.state as u8,
+        fields.heard as u8,
+        sent.unwrap_or(0) as u8,
+    ])
+}
+
+/// A participant with its n, own number, state and heard mask.
+type Participant = (u32, u32, (u32, u32));
+
+/// Every participant of n up to 4 in every state, with every heard mask.
+fn participants() -> Vec<Participant> {
+    let mut participants = Vec::new();
+    for n in 1..=4 {
+        for own in 1..=n {
+            let others = ((1 << n) - 1) & !(1 << (own - 1));
+            let plain = (0..=9)
+                .filter(|&state| state != 4)
+                .map(|state| (n, own, (state, 0)));
+            let heard = (0..others).filter(|heard| heard & !others == 0);
+            participants.extend(plain);
+            participants.extend(heard.map(|heard| (n, own, (4, heard))));
+        }
+    }
+    participants
+}
+
+#[test]
+fn deliveries_and_own_steps_agree_with_the_release() {
+    let events = [(1, 0), (1, 1), (2, 2), (2, 3), (3, 0), (4, 0), (5, 0)];
+    for (n, own, state) in participants() {
+        for (event, detail) in events {
+            let tail = release(n, own, state, detail & 1);
+            let expected = release_step(&tail, own, (event, detail));
+            assert_eq!(step(n, own, state, (event, detail, 0)), expected);
+        }
+    }
+}
+
+#[test]
+fn answers_agree_with_the_release() {
+    for (n, own, state) in participants() {
+        for log in 1..=n {
+            for (first, last) in [(1, 1), (1, 2), (1, 3), (2, 2)] {
+                assert_answer_agrees((n, own, state), log, (first, last));
+            }
+        }
+    }
+}
+
+/// The host gets the answer that the release's call on this log gives.
+fn assert_answer_agrees((n, own, state): Participant, log: u32, (first, last): (u32, u32)) {
+    let mut tail = release(n, own, state, 1);
+    let fields = &mut tail.participants[log as usize - 1];
+    (fields.first, fields.last) = (first, last);
+    let answer = match (state.0, last) {
+        (5, 1) => 3,
+        (6, 1) => 2,
+        _ => last,
+    };
+    let expected = release_step(&tail, own, (6, log));
+    assert_eq!(step(n, own, state, (6, log, answer)), expected);
+}

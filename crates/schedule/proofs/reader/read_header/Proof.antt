@@ -1,0 +1,24 @@
+-- `schedule::reader::read_header` meets its contract, case by case. Assumes nothing.
+use mathlib.Core.Path.{sym, _∙_}
+use Rattle.schedule.specs.Types.{Before}
+use Rattle.schedule.proofs.Tests.{found-refused, found-known}
+use mathlib.Core.Path.{sym, _∙_}
+use borrow.Author.Needs.{needs}
+use Rattle.schedule.proofs.reader.read_header.Statement.{statement}
+use Rattle.schedule.proofs.reader.read_header.Tie as tie
+
+pub read-header-spec : {M : Type 1} → statement M
+read-header-spec =
+    tie.close
+    (tie.spec
+    (λ c κs. search needs)
+    (λ c. search needs)
+    (λ c. search needs)
+    (λ c κs. search needs)
+    (λ c κs. found-known (c .before .before .before .before .before .before .before .args .bytes .now) Before.Nothing _ (sym (c .before .before .before .before .before .kind-at .ensures) ∙ c .before .before .before .kind .given .1) .room)
+    (λ c κs. search needs)
+    (λ c κs. search needs)
+    (λ c κs. search needs)
+    (λ c. found-refused (c .before .before .before .before .before .args .bytes .now) Before.Nothing _ (sym (c .before .before .before .kind-at .ensures) ∙ c .before .k .given .1))
+    (λ c. c .ranged .ensures ∙ (simp (c .before .in-range .ensures, c .before .before .header .ensures, c .before .before .before .record-at .ensures, sym (c .before .before .before .before .before .is-header .ensures) ∙ c .before .before .before .before .if1 .taken)) ∙ sym (found-known (c .before .before .before .before .before .before .before .before .before .before .before .args .bytes .now) Before.Nothing _ (sym (c .before .before .before .before .before .before .before .before .before .kind-at .ensures) ∙ c .before .before .before .before .before .before .before .kind .given .1) .answer))
+    (λ c. sym (found-known (c .before .before .before .before .before .before .before .args .bytes .now) Before.Nothing _ (sym (c .before .before .before .before .before .kind-at .ensures) ∙ c .before .before .before .kind .given .1) .answer ∙ simp (sym (c .before .is-header .ensures) ∙ c .if1 .left))))
