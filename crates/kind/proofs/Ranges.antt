@@ -2,28 +2,15 @@
 use mathlib.Core.Path.{_≡_, refl, sym, _∙_}
 use mathlib.Core.Bool.{Bool, true, false, _&&_}
 use Prim.Native.Nat.{ℕ}
-use lib.Dec.{eqb}
+use lib.Dec.{eqb, leb}
 use borrow.Author.Tests.{eq-eqb, eqb-true}
 use Rattle.number.specs.Numbering.{isNumber}
 use Rattle.number.proofs.Laws.{is-number}
 use Rattle.message.specs.Message.{typeNumber, messageOf}
 use Rattle.kind.specs.Types.{Kind}
 use Rattle.kind.specs.Kind.{kindNumber, kindOf, isKind}
-use Rattle.kind.specs.Step.{stepKind, stepNumber, stepOf, messageInRange, callInRange, partyInRange, noneInRange, numbersInRange}
+use Rattle.kind.specs.Step.{stepKind, stepNumber, stepOf, firstInRange, secondInRange, numbersInRange}
 use Rattle.kind.proofs.Numbers.{kind-numbers}
-
--- the numbers of each kind's body
-abbrev pub kindInRange : ℕ → Kind → ℕ → ℕ → Bool
-kindInRange n Kind.Header a b = false
-kindInRange n Kind.Start a b = noneInRange a b
-kindInRange n Kind.Deliver a b = messageInRange n a b
-kindInRange n Kind.Copy a b = messageInRange n a b
-kindInRange n Kind.Lose a b = messageInRange n a b
-kindInRange n Kind.Call a b = callInRange n a b
-kindInRange n Kind.CallLost a b = callInRange n a b
-kindInRange n Kind.Timeout a b = partyInRange n a b
-kindInRange n Kind.Crash a b = partyInRange n a b
-kindInRange n Kind.Restart a b = partyInRange n a b
 
 itself : (k : ℕ) → eqb k k ≡ true
 itself k = eq-eqb k k refl
@@ -33,17 +20,23 @@ and-all : (x : Bool) → x && true ≡ x
 and-all true = refl
 and-all false = refl
 
-pub kind-ranged : (n : ℕ) (k : Kind) (a b : ℕ) → kindInRange n k a b ≡ numbersInRange n (kindNumber k) a b
+other-order : (x y : Bool) → x && y ≡ y && x
+other-order true true = refl
+other-order true false = refl
+other-order false true = refl
+other-order false false = refl
+
+pub kind-ranged : (n : ℕ) (k : Kind) (a b : ℕ) → firstInRange n k a && secondInRange n k b ≡ numbersInRange n (kindNumber k) a b
 kind-ranged n Kind.Header a b = refl
-kind-ranged n Kind.Start a b = sym (and-all (noneInRange a b))
+kind-ranged n Kind.Start a b = sym (and-all (eqb 0 a && eqb 0 b))
 kind-ranged n Kind.Deliver a b = rw (itself b, and-all (isNumber typeNumber messageOf a)) refl
 kind-ranged n Kind.Copy a b = rw (itself b, and-all (isNumber typeNumber messageOf a)) refl
 kind-ranged n Kind.Lose a b = rw (itself b, and-all (isNumber typeNumber messageOf a)) refl
 kind-ranged n Kind.Call a b = rw (itself a, itself b) refl
 kind-ranged n Kind.CallLost a b = rw (itself a, itself b) refl
-kind-ranged n Kind.Timeout a b = rw (itself a) refl
-kind-ranged n Kind.Crash a b = rw (itself a) refl
-kind-ranged n Kind.Restart a b = rw (itself a) refl
+kind-ranged n Kind.Timeout a b = rw (itself a) (other-order (leb a n) (eqb 0 b))
+kind-ranged n Kind.Crash a b = rw (itself a) (other-order (leb a n) (eqb 0 b))
+kind-ranged n Kind.Restart a b = rw (itself a) (other-order (leb a n) (eqb 0 b))
 
 -- the number of no kind is that of no step
 pub unknown : (n k a b : ℕ) → isKind k ≡ false → numbersInRange n k a b ≡ false

@@ -1,13 +1,13 @@
 -- A step with its numbers: its kind, and two numbers of its body, 0 where the body has none. Assumes nothing.
 use mathlib.Core.Path.{_≡_}
-use mathlib.Core.Bool.{Bool, true, _&&_}
+use mathlib.Core.Bool.{Bool, true, false, cond, _&&_}
 use mathlib.Core.List.{List, [], _∷_}
 use Prim.Native.Nat.{ℕ}
 use lib.Dec.{eqb, leb}
 use Rattle.number.specs.Numbering.{isNumber, areNumbers3}
 use Rattle.message.specs.Message.{typeNumber, messageOf}
 use Rattle.kind.specs.Types.{Kind, Step}
-use Rattle.kind.specs.Kind.{kindNumber, kindOf}
+use Rattle.kind.specs.Kind.{kindNumber, kindOf, isHeader}
 
 abbrev pub stepKind : Step → Kind
 stepKind Step.Start = Kind.Start
@@ -69,19 +69,51 @@ isStep k a b = areNumbers3 stepNumber firstNumber secondNumber stepOf k a b
 abbrev pub numberInRange : ℕ → ℕ → ℕ → Bool
 numberInRange low k high = leb low k && leb k high
 
--- the numbers of a body: type, participant; party, log; party; none. Numbers that are not used are 0
+-- what the two numbers of a body are: a message's type or a party; a participant or a log
 
-abbrev pub messageInRange : ℕ → ℕ → ℕ → Bool
-messageInRange n a b = isNumber typeNumber messageOf a && numberInRange 1 b n
+abbrev pub namesMessage : Kind → Bool
+namesMessage Kind.Header = false
+namesMessage Kind.Start = false
+namesMessage Kind.Deliver = true
+namesMessage Kind.Copy = true
+namesMessage Kind.Lose = true
+namesMessage Kind.Call = false
+namesMessage Kind.CallLost = false
+namesMessage Kind.Timeout = false
+namesMessage Kind.Crash = false
+namesMessage Kind.Restart = false
 
-abbrev pub callInRange : ℕ → ℕ → ℕ → Bool
-callInRange n a b = leb a n && numberInRange 1 b n
+abbrev pub namesParty : Kind → Bool
+namesParty Kind.Header = false
+namesParty Kind.Start = false
+namesParty Kind.Deliver = false
+namesParty Kind.Copy = false
+namesParty Kind.Lose = false
+namesParty Kind.Call = true
+namesParty Kind.CallLost = true
+namesParty Kind.Timeout = true
+namesParty Kind.Crash = true
+namesParty Kind.Restart = true
 
-abbrev pub partyInRange : ℕ → ℕ → ℕ → Bool
-partyInRange n a b = eqb 0 b && leb a n
+abbrev pub namesPlace : Kind → Bool
+namesPlace Kind.Header = false
+namesPlace Kind.Start = false
+namesPlace Kind.Deliver = true
+namesPlace Kind.Copy = true
+namesPlace Kind.Lose = true
+namesPlace Kind.Call = true
+namesPlace Kind.CallLost = true
+namesPlace Kind.Timeout = false
+namesPlace Kind.Crash = false
+namesPlace Kind.Restart = false
 
-abbrev pub noneInRange : ℕ → ℕ → Bool
-noneInRange a b = eqb 0 a && eqb 0 b
+-- and their ranges under n. Numbers that are not used are 0; a header is no step
+
+abbrev pub firstInRange : ℕ → Kind → ℕ → Bool
+firstInRange n k a = cond (namesMessage k) (isNumber typeNumber messageOf a) (cond (namesParty k) (leb a n) (cond (isHeader k) false (eqb 0 a)))
+
+abbrev pub secondInRange : ℕ → Kind → ℕ → Bool
+secondInRange n k b = cond (namesPlace k) (numberInRange 1 b n) (eqb 0 b)
 
 abbrev pub inRange : ℕ → Step → Bool
 inRange n Step.Start = true

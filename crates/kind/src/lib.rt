@@ -2,7 +2,7 @@
 use message::Message;
 ghost use mathlib.Core.Path.{_≡_};
 ghost use Rattle.kind.specs.Kind.{kindNumber, kindOf, bodyLength, isHeader};
-ghost use Rattle.kind.specs.Step.{ofKind, numberInRange, messageInRange, callInRange, partyInRange, noneInRange, numbersInRange};
+ghost use Rattle.kind.specs.Step.{ofKind, numberInRange, namesMessage, namesParty, namesPlace, firstInRange, secondInRange, numbersInRange};
 
 // The kind of a record.
 pub enum Kind {
@@ -118,51 +118,94 @@ pub fn between(low: u32, k: u32, high: u32) -> bool
     if low <= k { k <= high } else { false }
 }
 
-// The ranges of a body's numbers: type and participant; party and log; party, and nothing; nothing.
-fn message_in_range(n: u32, a: u32, b: u32) -> bool
-    ensures { λ x. ⌜ x ≡ messageInRange n a b ⌝ }
-{
-    if Message::of(a).number() == a {
-        between(1, b, n)
-    } else {
-        false
-    }
-}
-
-fn call_in_range(n: u32, a: u32, b: u32) -> bool
-    ensures { λ x. ⌜ x ≡ callInRange n a b ⌝ }
-{
-    if a <= n { between(1, b, n) } else { false }
-}
-
-fn party_in_range(n: u32, a: u32, b: u32) -> bool
-    ensures { λ x. ⌜ x ≡ partyInRange n a b ⌝ }
-{
-    if b == 0 { a <= n } else { false }
-}
-
-fn none_in_range(a: u32, b: u32) -> bool
-    ensures { λ x. ⌜ x ≡ noneInRange a b ⌝ }
-{
-    if a == 0 { 0 == b } else { false }
-}
-
 impl Kind {
-    // Whether a step of this kind that a reader yields under a header with n has these numbers. A header is no step.
-    pub fn numbers_in_range(self, n: u32, a: u32, b: u32) -> bool
-        ensures { λ x. ⌜ x ≡ numbersInRange n (kindNumber self) a b ⌝ }
+    // Whether the first number of its body is a message's type, or a party.
+    fn names_message(self) -> bool
+        ensures { λ b. ⌜ b ≡ namesMessage self ⌝ }
     {
         match self {
             Kind::Header => false,
-            Kind::Start => none_in_range(a, b),
-            Kind::Deliver => message_in_range(n, a, b),
-            Kind::Copy => message_in_range(n, a, b),
-            Kind::Lose => message_in_range(n, a, b),
-            Kind::Call => call_in_range(n, a, b),
-            Kind::CallLost => call_in_range(n, a, b),
-            Kind::Timeout => party_in_range(n, a, b),
-            Kind::Crash => party_in_range(n, a, b),
-            Kind::Restart => party_in_range(n, a, b),
+            Kind::Start => false,
+            Kind::Deliver => true,
+            Kind::Copy => true,
+            Kind::Lose => true,
+            Kind::Call => false,
+            Kind::CallLost => false,
+            Kind::Timeout => false,
+            Kind::Crash => false,
+            Kind::Restart => false,
+        }
+    }
+
+    fn names_party(self) -> bool
+        ensures { λ b. ⌜ b ≡ namesParty self ⌝ }
+    {
+        match self {
+            Kind::Header => false,
+            Kind::Start => false,
+            Kind::Deliver => false,
+            Kind::Copy => false,
+            Kind::Lose => false,
+            Kind::Call => true,
+            Kind::CallLost => true,
+            Kind::Timeout => true,
+            Kind::Crash => true,
+            Kind::Restart => true,
+        }
+    }
+
+    // Whether the second one is a participant or a log.
+    fn names_place(self) -> bool
+        ensures { λ b. ⌜ b ≡ namesPlace self ⌝ }
+    {
+        match self {
+            Kind::Header => false,
+            Kind::Start => false,
+            Kind::Deliver => true,
+            Kind::Copy => true,
+            Kind::Lose => true,
+            Kind::Call => true,
+            Kind::CallLost => true,
+            Kind::Timeout => false,
+            Kind::Crash => false,
+            Kind::Restart => false,
+        }
+    }
+
+    // Whether a step of this kind under a header with n has this first number. A header is no step.
+    fn first_in_range(self, n: u32, a: u32) -> bool
+        ensures { λ x. ⌜ x ≡ firstInRange n self a ⌝ }
+    {
+        if self.names_message() {
+            Message::of(a).number() == a
+        } else if self.names_party() {
+            a <= n
+        } else if self.is_header() {
+            false
+        } else {
+            0 == a
+        }
+    }
+
+    // And this second number.
+    fn second_in_range(self, n: u32, b: u32) -> bool
+        ensures { λ x. ⌜ x ≡ secondInRange n self b ⌝ }
+    {
+        if self.names_place() {
+            between(1, b, n)
+        } else {
+            0 == b
+        }
+    }
+
+    // Whether a step of this kind that a reader yields under a header with n has these numbers.
+    pub fn numbers_in_range(self, n: u32, a: u32, b: u32) -> bool
+        ensures { λ x. ⌜ x ≡ numbersInRange n (kindNumber self) a b ⌝ }
+    {
+        if self.first_in_range(n, a) {
+            self.second_in_range(n, b)
+        } else {
+            false
         }
     }
 }

@@ -11,9 +11,10 @@ use lib.Seq.{sets}
 use Rattle.store.specs.Log.{places}
 use Rattle.kind.specs.Step.{inRange}
 use Rattle.schedule.specs.Record.{recordStep, headerInRange, longest}
-use Rattle.schedule.specs.Reader.{readerAnswers}
+use Rattle.schedule.specs.Reader.{readerAnswers, stepAt, lengthAt}
 use Rattle.schedule.specs.Schedule.{withStep}
 use Rattle.schedule.proofs.Laws.{header-size}
+use Rattle.schedule.proofs.Records.{read-untested}
 use Rattle.rules.specs.Report.{outcomeNumber}
 use Rattle.rules.specs.Step.{step}
 use Rattle.rules.specs.Run.{after, Countable}
@@ -111,6 +112,23 @@ module _ {s : List ℕ} {h : Header} {start count : ℕ} {out₀ out : List ℕ}
   no-refusal k p e =
       let z : _≡_ {A = ℕ} 0 1 = cc (sym (ap (validatedAfter i) (read-refused s h at some k p e)) ∙ g .left) in
       omega arith
+
+  -- so a record is there, and its step and length are those that the bytes begin with
+  pub record Here : Type 0 where
+    pub found : Record
+    pub size : ℕ
+    pub read : readerAnswers (drop at s) (Before.Header h) ≡ Read.Record found size
+    pub same-step : stepAt (drop at s) ≡ recordStep found
+    pub same-size : lengthAt (drop at s) ≡ size
+
+  pub here-read : Here
+  here-read = go (readerAnswers (drop at s) (Before.Header h)) refl
+    where
+      go : (x : Read) → readerAnswers (drop at s) (Before.Header h) ≡ x → Here
+      go (Read.Record x l) e =
+          let y = read-untested (drop at s) (Before.Header h) x l e in
+          record { found = x; size = l; read = e; same-step = sym (y .0); same-size = sym (y .1) }
+      go (Read.Refused k p) e = absurd (no-refusal k p e)
 
 -- at the end
 pub arrived : {s : List ℕ} {h : Header} {start count : ℕ} {out₀ out : List ℕ} {at i : ℕ} {r : Release} → Going s h start count out₀ out at i r → length s ≤ at

@@ -14,7 +14,9 @@ use schedule::Header;
 use schedule::LONGEST;
 use schedule::reader::Before;
 use schedule::reader::Read;
+use schedule::reader::length_at;
 use schedule::reader::read_record;
+use schedule::reader::step_at;
 use store::LOGS;
 use store::LogPair;
 use store::LogRecord;
@@ -104,7 +106,8 @@ fn fresh(header: Header) -> Release
     }
 }
 
-// The second pass: takes the steps of a schedule that was validated, writes a byte for each, and answers the release that they leave.
+// The second pass: takes the steps of a schedule that was validated, writes a byte for each, and answers the release that they leave. What the
+// first pass tested is not tested again.
 pub fn run_steps(schedule: &[u8], header: Header, count: usize, report: &mut [u8]) -> Release
     requires { ⌜ (validated (readSchedule (now schedule)) ≡ Validated.Steps header count) × (count ≤ length (now report)) ⌝ }
     ensures { λ r. ⌜ (r ≡ after (freshOf header) (stepsOf (readSchedule (now (schedule .entry)))))
@@ -114,14 +117,11 @@ pub fn run_steps(schedule: &[u8], header: Header, count: usize, report: &mut [u8
     let mut i: usize = 0;
     let mut release = fresh(header);
     while at < schedule.len() {
-        let Read::Record(r, length) = read_record(&schedule[at..], Before::Header(header)) else {
-            return release;
-        };
-        let stepped = step(release, r.step());
+        let stepped = step(release, step_at(&schedule[at..]));
         let outcome = stepped.outcome;
         report[i] = report_byte(outcome);
         release = stepped.next;
-        at = at + length;
+        at = at + length_at(&schedule[at..]);
         i = i + 1;
     }
     release

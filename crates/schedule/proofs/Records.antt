@@ -15,7 +15,7 @@ use Rattle.kind.specs.Step.{isStep, ofKind, inRange, numbersInRange}
 use Rattle.kind.proofs.Numbers.{kind-numbers, kind-encoded, kind-of-step, step-no-header, step-tested}
 use Rattle.schedule.specs.Types.{Kind, Step, Header, Record, Before, Read}
 use Rattle.schedule.specs.Record.{recordStep, stepRecord, headerInRange, recordInRange, recordLength, recordBytes}
-use Rattle.schedule.specs.Reader.{refused, bodyNumber, isPlaced, inRangeAfter, kindAnswer, readerAnswers}
+use Rattle.schedule.specs.Reader.{refused, bodyNumber, recordAt, isPlaced, inRangeAfter, kindAnswer, readerAnswers, stepAt, lengthAt}
 use Rattle.schedule.specs.RoundTrip.{mayFollow}
 
 -- the record of a kind with its body's numbers
@@ -101,11 +101,9 @@ begins-three : (bytes : List ℕ) → 2 < length bytes → bytes ≡ getD bytes 
 begins-three bytes h = begins-two bytes (omega arith) ∙ ap (λ t. getD bytes 0 0 ∷ getD bytes 1 0 ∷ t) (drop-cons bytes 2 0 h)
 
 -- the record that the reader takes apart
-abbrev recordIn : List ℕ → Kind → Record
-recordIn bytes k = recordWith k (bodyNumber bytes k 1) (bodyNumber bytes k 2)
 
 begins : (bytes : List ℕ) (k : Kind) → bodyLength k < length bytes → getD bytes 0 0 ≡ kindNumber k
-    → bytes ≡ recordBytes (recordIn bytes k) ++ drop (recordLength (recordIn bytes k)) bytes
+    → bytes ≡ recordBytes (recordAt bytes k) ++ drop (recordLength (recordAt bytes k)) bytes
 begins bytes Kind.Header h e = begins-three bytes h ∙ ap (λ x. x ∷ getD bytes 1 0 ∷ getD bytes 2 0 ∷ drop 3 bytes) e
 begins bytes Kind.Start h e = begins-one bytes h ∙ ap (λ x. x ∷ drop 1 bytes) e
 begins bytes Kind.Deliver h e = begins-three bytes h ∙ ap (λ x. x ∷ getD bytes 1 0 ∷ getD bytes 2 0 ∷ drop 3 bytes) e
@@ -142,9 +140,9 @@ module _ (bytes : List ℕ) (before : Before) where
   body-yielded k r l e q =
       let long = record-right (leb (length bytes) (bodyLength k)) _ bodyCutShort r l q in
       let placed = record-left (isPlaced before k) _ headerMisplaced r l (long .1) in
-      let ranged = record-left (inRangeAfter before (recordIn bytes k)) _ outOfRange r l (placed .1) in
-      let same = same-record (recordIn bytes k) r (recordLength (recordIn bytes k)) l (ranged .1) in
-      let found : Yielded bytes before (recordIn bytes k) (recordLength (recordIn bytes k)) =
+      let ranged = record-left (inRangeAfter before (recordAt bytes k)) _ outOfRange r l (placed .1) in
+      let same = same-record (recordAt bytes k) r (recordLength (recordAt bytes k)) l (ranged .1) in
+      let found : Yielded bytes before (recordAt bytes k) (recordLength (recordAt bytes k)) =
       record {
         follows = and-true _ _ (placed .0) (ranged .0);
         size = refl;
@@ -158,6 +156,32 @@ module _ (bytes : List ℕ) (before : Before) where
       let some = record-right (eqb (length bytes) 0) _ emptyOrTooLong r l q in
       let known = record-left (isKind x) _ unknownKind r l (some .1) in
       body-yielded (kindOf x) r l (sym (kind-numbers .encoded x (known .0))) (known .1)
+
+-- what is yielded, without a test
+
+step-in : (bytes : List ℕ) (k : Kind) → recordStep (recordAt bytes k) ≡ ofKind k (getD bytes 1 0) (getD bytes 2 0)
+step-in bytes Kind.Header = refl
+step-in bytes Kind.Start = refl
+step-in bytes Kind.Deliver = refl
+step-in bytes Kind.Copy = refl
+step-in bytes Kind.Lose = refl
+step-in bytes Kind.Call = refl
+step-in bytes Kind.CallLost = refl
+step-in bytes Kind.Timeout = refl
+step-in bytes Kind.Crash = refl
+step-in bytes Kind.Restart = refl
+
+pub read-untested : (bytes : List ℕ) (before : Before) (r : Record) (l : ℕ) → readerAnswers bytes before ≡ Read.Record r l
+    → (recordStep r ≡ stepAt bytes) × (l ≡ lengthAt bytes)
+read-untested bytes before r l q =
+    let k : Kind = kindOf (getD bytes 0 0) in
+    let some = record-right (eqb (length bytes) 0) _ emptyOrTooLong r l q in
+    let known = record-left (isKind (getD bytes 0 0)) _ unknownKind r l (some .1) in
+    let long = record-right (leb (length bytes) (bodyLength k)) _ bodyCutShort r l (known .1) in
+    let placed = record-left (isPlaced before k) _ headerMisplaced r l (long .1) in
+    let ranged = record-left (inRangeAfter before (recordAt bytes k)) _ outOfRange r l (placed .1) in
+    let same = same-record (recordAt bytes k) r (recordLength (recordAt bytes k)) l (ranged .1) in
+    (ap recordStep (sym (same .0)) ∙ step-in bytes k, sym (same .1))
 
 -- Steps as records, and back
 

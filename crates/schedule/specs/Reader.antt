@@ -1,12 +1,13 @@
 -- The reader: the record that some bytes begin with, told the header that came before, or none. Order: 1, 2, 3, 4, 5. Assumes nothing.
 use mathlib.Core.Bool.{Bool, cond, _&&_, not}
 use mathlib.Core.List.{List}
-use Prim.Native.Nat.{ℕ}
+use Prim.Native.Nat.{ℕ, _+_}
 use lib.Dec.{eqb, leb}
 use lib.ListN.{length, getD}
 use Rattle.number.specs.Refusal.{Handed, hands, accepted, emptyOrTooLong, unknownKind, bodyCutShort, headerMisplaced, outOfRange}
 use Rattle.kind.specs.Kind.{kindOf, isKind, bodyLength, isHeader}
-use Rattle.schedule.specs.Types.{Kind, Record, Before, Read}
+use Rattle.kind.specs.Step.{ofKind}
+use Rattle.schedule.specs.Types.{Kind, Step, Record, Before, Read}
 use Rattle.schedule.specs.Record.{headerInRange, recordInRange, recordLength}
 
 -- a refusal names the place of the record's first byte, counted in the bytes given
@@ -51,3 +52,11 @@ readerAnswers bytes before =
 abbrev pub readHands : Read → Handed
 readHands (Read.Record r l) = hands accepted l
 readHands (Read.Refused k place) = hands k place
+
+-- what accepted bytes begin with, without a test: the step, and the length of its record. Numbers that its kind does not use are not looked at
+
+abbrev pub stepAt : List ℕ → Step
+stepAt bytes = ofKind (kindOf (getD bytes 0 0)) (getD bytes 1 0) (getD bytes 2 0)
+
+abbrev pub lengthAt : List ℕ → ℕ
+lengthAt bytes = 1 + bodyLength (kindOf (getD bytes 0 0))

@@ -2,6 +2,7 @@
 use super::Header;
 use super::Record;
 use kind::Kind;
+use kind::Step;
 use number::BODY_CUT_SHORT;
 use number::EMPTY_OR_TOO_LONG;
 use number::HEADER_MISPLACED;
@@ -9,9 +10,9 @@ use number::OUT_OF_RANGE;
 use number::UNKNOWN_KIND;
 ghost use mathlib.Core.Path.{_≡_};
 ghost use Prim.Native.Nat.{_<_};
-ghost use lib.ListN.{length};
+ghost use lib.ListN.{length, getD};
 ghost use Rattle.kind.specs.Kind.{bodyLength};
-ghost use Rattle.schedule.specs.Reader.{bodyNumber, recordAt, inRangeAfter, ranged, readerAnswers};
+ghost use Rattle.schedule.specs.Reader.{bodyNumber, recordAt, inRangeAfter, ranged, readerAnswers, stepAt, lengthAt};
 ghost use Rattle.schedule.specs.Found.{kindAt};
 ghost use Rattle.schedule.specs.declared.reader.Before.{Before};
 
@@ -137,4 +138,25 @@ pub fn read_record(bytes: &[u8], before: Before) -> Read
         Before::Nothing => read_header(bytes),
         Before::Header(h) => read_step(bytes, h),
     }
+}
+
+// A byte as a number, 0 where there is none.
+fn byte_at(bytes: &[u8], i: usize) -> u32
+    ensures { λ k. ⌜ k ≡ getD (now (bytes .entry)) i 0 ⌝ }
+{
+    if i < bytes.len() { bytes[i] as u32 } else { 0 }
+}
+
+// The step that accepted bytes begin with, and the length of its record. Nothing is tested again.
+pub fn step_at(bytes: &[u8]) -> Step
+    ensures { λ s. ⌜ s ≡ stepAt (now (bytes .entry)) ⌝ }
+{
+    let kind = Kind::of(byte_at(bytes, 0));
+    Step::of(kind, byte_at(bytes, 1), byte_at(bytes, 2))
+}
+
+pub fn length_at(bytes: &[u8]) -> usize
+    ensures { λ l. ⌜ l ≡ lengthAt (now (bytes .entry)) ⌝ }
+{
+    1 + Kind::body(Kind::of(byte_at(bytes, 0)))
 }

@@ -2,47 +2,37 @@
 use mathlib.Core.Path.{_≡_, sym, ap, _∙_}
 use Prim.Native.Nat.{_-_}
 use native.Mathlib.Omega.{arith}
-use lib.ListN.{length, drop}
+use lib.ListN.{length}
 use borrow.Author.Needs.{needs}
-use Rattle.schedule.specs.Reader.{readerAnswers}
-use Rattle.passes.specs.Types.{Before, Read}
-use Rattle.passes.specs.Pass.{validated}
-use Rattle.passes.proofs.Reading.{First, tail-part, read-first}
+use Rattle.schedule.specs.Record.{recordStep}
+use Rattle.schedule.specs.Reader.{stepAt, lengthAt}
+use Rattle.passes.specs.Types.{Header, Release}
+use Rattle.passes.specs.Pass.{validated, freshOf}
+use Rattle.passes.proofs.Reading.{tail-part, read-first}
 use Rattle.passes.proofs.Passed.{passed}
-use Rattle.passes.proofs.Going.{Going, set-out, small, countable, ranged, has-room, go-on, no-refusal, arrived}
+use Rattle.passes.proofs.Going.{Going, Here, set-out, small, countable, ranged, has-room, fits, go-on, here-read, arrived}
 use Rattle.passes.proofs.run_steps.Statement.{statement}
 use Rattle.passes.proofs.run_steps.Tie as tie
 
 abbrev Inv-loop : tie.InvT-loop
-Inv-loop schedule header count report₀ at₀ i₀ release₀ report at i release = Going schedule header 3 count report₀ report at i release
+Inv-loop schedule count report₀ at₀ i₀ release₀ report at i release = (h : Header) × (release₀ ≡ freshOf h) × Going schedule h 3 count report₀ report at i release
 
 abbrev μ-loop : tie.MeasureT-loop
-μ-loop schedule header count report₀ at₀ i₀ release₀ report at i release = length schedule - at
+μ-loop schedule count report₀ at₀ i₀ release₀ report at i release = length schedule - at
 
--- what the reader was handed is what is left of the schedule
-read-here : (c : tie.After-read-record Inv-loop μ-loop) →
+-- the record at the place where the loop stands
+abbrev here : (c : tie.In-loop Inv-loop μ-loop) → Here (c .before .loop .inv .2) (c .loop-test .taken)
+here c = here-read (c .before .loop .inv .2) (c .loop-test .taken)
+
+step-here : (c : tie.After-step-at Inv-loop μ-loop) → c .step-at .result ≡ recordStep (here (c .before .before) .found)
+step-here c =
     let at = c .before .before .before in
-    let args = at .before .before .before .before .args in
-    c .read-record .result ≡ readerAnswers (drop (at .loop .at) (args .schedule .now)) (Before.Header (args .header))
-read-here c =
-    let at = c .before .before .before in
-    let args = at .before .before .before .before .args in
-    c .read-record .ensures ∙ ap (λ l. readerAnswers l (Before.Header (args .header))) (tail-part (args .schedule .now) (at .loop .at))
+    c .step-at .ensures ∙ ap stepAt (tail-part (at .before .before .before .before .args .schedule .now) (at .loop .at)) ∙ here (c .before .before) .same-step
 
-yielded : (c : tie.After-r Inv-loop μ-loop) →
-    let at = c .before .before .before .before .before in
-    let args = at .before .before .before .before .args in
-    readerAnswers (drop (at .loop .at) (args .schedule .now)) (Before.Header (args .header)) ≡ Read.Record (c .r .given .0 .0) (c .r .given .0 .1 .0)
-yielded c = sym (read-here (c .before .before)) ∙ c .r .given .1
-
-first : (c : tie.After-r Inv-loop μ-loop) →
-    let at = c .before .before .before .before .before in
-    let args = at .before .before .before .before .args in
-    First (args .schedule .now) (args .header) (at .loop .at) (c .r .given .0 .0) (c .r .given .0 .1 .0)
-first c =
-    let at = c .before .before .before .before .before in
-    let args = at .before .before .before .before .args in
-    read-first (args .schedule .now) (args .header) (at .loop .at) (c .before .before .before .before .loop-test .taken) (c .r .given .0 .0) (c .r .given .0 .1 .0) (yielded c)
+size-here : (c : tie.After-length-at Inv-loop μ-loop) → c .length-at .result ≡ here (c .before .before .before .before .before .before .before) .size
+size-here c =
+    let at = c .before .before .before .before .before .before .before .before in
+    c .length-at .ensures ∙ ap lengthAt (tail-part (at .before .before .before .before .args .schedule .now) (at .loop .at)) ∙ here (c .before .before .before .before .before .before .before) .same-size
 
 pub run-steps-spec : {M : Type 1} → statement M
 run-steps-spec =
@@ -51,22 +41,21 @@ run-steps-spec =
     Inv-loop
     μ-loop
     (λ c κs. search needs)
-    (λ c. let start = c .before .before .before in let args = start .args in let p = passed (args .schedule .now) (args .header) (args .count) (start .pre .0) in rw (c .fresh .ensures) (set-out (args .schedule .now) (args .header) 3 (args .count) (args .report .now) (p .three) (p .short) (start .pre .1) (p .header) (ap validated (p .after-three) ∙ start .pre .0)))
+    (λ c. let start = c .before .before .before in let args = start .args in let p = passed (args .schedule .now) (args .header) (args .count) (start .pre .0) in (args .header, c .fresh .ensures, rw (c .fresh .ensures) (set-out (args .schedule .now) (args .header) 3 (args .count) (args .report .now) (p .three) (p .short) (start .pre .1) (p .header) (ap validated (p .after-three) ∙ start .pre .0))))
     (λ c. search needs)
     (λ c. search needs)
     (λ c. search needs)
     (λ c κs. search needs)
-    (λ c. search needs)
-    (λ c. search needs)
-    (λ c. c .before .before .before .before .before .loop .inv .same)
-    (λ c. let at = c .before .before .before .before .before in absurd (no-refusal (at .loop .inv) (c .before .before .before .before .loop-test .taken) (c .enum-told .given .0 .0) (c .enum-told .given .0 .1 .0) (sym (read-here (c .before .before)) ∙ c .enum-told .given .1)))
+    (λ c κs. let x = here (c .before .before) in (small (c .before .before .before .loop .inv .2) (c .before .before .loop-test .taken), rw (step-here c) (ranged (c .before .before .before .loop .inv .2) (c .before .before .loop-test .taken) (x .found) (x .size) (x .read)), countable (c .before .before .before .loop .inv .2) (c .before .before .loop-test .taken)))
     (λ c κs. search needs)
-    (λ c κs. let at = c .before .before .before .before .before .before .before in let x = c .before .before in let some = c .before .before .before .before .before .before .loop-test .taken in (small (at .loop .inv) some, rw (c .step .ensures) (ranged (at .loop .inv) some (x .r .given .0 .0) (x .r .given .0 .1 .0) (yielded x)), countable (at .loop .inv) some))
-    (λ c κs. search needs)
-    (λ c. let at = c .before .before .before .before .before .before .before .before .before in let x = c .before .before .before .before in has-room (at .loop .inv) (c .before .before .before .before .before .before .before .before .loop-test .taken) (x .r .given .0 .0) (x .r .given .0 .1 .0) (yielded x))
-    (λ c. omega (arith, first (c .before .before .before .before .before) .within))
+    (λ c. let x = here (c .before .before .before .before) in has-room (c .before .before .before .before .before .loop .inv .2) (c .before .before .before .before .loop-test .taken) (x .found) (x .size) (x .read))
     (λ c. search needs)
-    (λ c. omega (arith, first (c .before .before .before .before .before) .some, first (c .before .before .before .before .before) .within))
-    (λ c. let at = c .before .before .before .before .before .before .before .before .before .before in let x = c .before .before .before .before .before in rw (c .before .report-byte .ensures, c .before .before .step2 .ensures, c .before .before .before .step .ensures) (go-on (at .loop .inv) (c .before .before .before .before .before .before .before .before .before .loop-test .taken) (x .r .given .0 .0) (x .r .given .0 .1 .0) (yielded x)))
-    (λ c. c .before .loop .inv .same)
-    (λ c. let start = c .before .before .before .before .before in let args = start .args in rw (passed (args .schedule .now) (args .header) (args .count) (start .pre .0) .after-three) at (arrived (c .before .loop .inv) (c .loop-test .left))))
+    (λ c. search needs)
+    (λ c. search needs)
+    (λ c κs. search needs)
+    (λ c. let x = here (c .before .before .before .before .before .before .before) in omega (arith, size-here c, fits (c .before .before .before .before .before .before .before .before .loop .inv .2) (c .before .before .before .before .before .before .before .loop-test .taken) (x .found) (x .size) (x .read)))
+    (λ c. search needs)
+    (λ c. let x = here (c .before .before .before .before .before .before .before) in let at = c .before .before .before .before .before .before .before .before in let args = at .before .before .before .before .args in let f = read-first (args .schedule .now) (at .loop .inv .0) (at .loop .at) (c .before .before .before .before .before .before .before .loop-test .taken) (x .found) (x .size) (x .read) in omega (arith, size-here c, f .some, f .within))
+    (λ c. let x = here (c .before .before .before .before .before .before .before) in let at = c .before .before .before .before .before .before .before .before in (at .loop .inv .0, at .loop .inv .1, rw (size-here c, c .before .before .before .report-byte .ensures, c .before .before .before .before .step .ensures, step-here (c .before .before .before .before .before)) (go-on (c .before .before .before .before .before .before .before .before .loop .inv .2) (c .before .before .before .before .before .before .before .loop-test .taken) (x .found) (x .size) (x .read))))
+    (λ c. c .before .loop .inv .2 .same)
+    (λ c. let start = c .before .before .before .before .before in let args = start .args in let e : c .before .loop .inv .0 ≡ args .header = ap (λ (r : Release). record { n = r .n; votes = r .votes }) (sym (c .before .loop .inv .1) ∙ c .before .before .fresh .ensures) in rw (e, passed (args .schedule .now) (args .header) (args .count) (start .pre .0) .after-three) at (arrived (c .before .loop .inv .2) (c .loop-test .left))))
