@@ -3,6 +3,7 @@
 use change::Change;
 use change::Part;
 use change::led;
+use coordinator::Coordinator;
 use kind::Step;
 use message::Message;
 use message::Sent;
@@ -12,6 +13,7 @@ use rules::Release;
 use rules::Report;
 use rules::Site;
 use rules::TYPES;
+use store::LOGS;
 use store::LogPair;
 use store::Store;
 ghost use mathlib.Core.Path.{_≡_};
@@ -25,7 +27,7 @@ ghost use Rattle.rules.specs.State.{messagePlace, maskAt};
 ghost use Rattle.rules.specs.Report.{outcomeNumber, moves};
 ghost use Rattle.rules.specs.Step.{step};
 ghost use Rattle.rules.specs.Run.{countLimit, Countable};
-ghost use Rattle.release.specs.Applied.{participantPlace, logPlace, caller, named, taken, flight, dropped, sent, written, counted, partOf, putBack, withMessages};
+ghost use Rattle.release.specs.Applied.{participantPlace, logPlace, caller, named, taken, flight, dropped, sent, written, counted, putBack, withMessages};
 
 // Whether the step was due.
 pub fn moves(o: Outcome) -> bool
@@ -238,20 +240,24 @@ fn counted(counts: [u16; PARTIES], p: u32, called: bool) -> [u16; PARTIES]
     }
 }
 
-// The release after a change of the parts at these places; `masks` are those of the messages.
-fn put_back(r: Release, masks: [u32; TYPES], i: u32, j: u32, p: u32, x: Change) -> Release
-    requires { ⌜ (r .n ≤ 32) × (i < places) × (p < suc places) × (getD (r .calls) p 0 < countLimit) ⌝ }
+// The release after a change of the parts at these places. `masks` are those of the messages, and `sites` has the participant.
+fn put_back(
+    r: Release,
+    masks: [u32; TYPES],
+    sites: [Site; LOGS],
+    i: u32,
+    j: u32,
+    p: u32,
+    x: Change,
+) -> Release
+    requires { ⌜ (r .n ≤ 32) × (i < places) × (p < suc places) × (getD (r .calls) p 0 < countLimit)
+        × (sites ≡ set (r .sites) i (record { participant = x .participant })) ⌝ }
     ensures { λ next. ⌜ next ≡ putBack i j p x (withMessages masks r) ⌝ }
 {
     let coordinator = x.coordinator;
-    let participant = x.participant;
     let log = x.log;
     let m = x.sent;
     let messages = sent(masks, m, x.all, r.n, i);
-    let mut sites = r.sites;
-    sites[i as usize] = Site {
-        participant: participant,
-    };
     let store = r.store;
     let logs = written(store, j, log, x.called);
     let before = r.calls;
@@ -267,26 +273,22 @@ fn put_back(r: Release, masks: [u32; TYPES], i: u32, j: u32, p: u32, x: Change) 
     }
 }
 
-// The parts of a release that a step names.
-fn part_of(r: Release, i: u32, j: u32) -> Part
-    requires { ⌜ i < places ⌝ }
-    ensures { λ x. ⌜ x ≡ partOf i j r ⌝ }
+// The parts that a step reads.
+fn part(n: u32, votes: u32, coordinator: Coordinator, site: Site, log: LogPair) -> Part
+    ensures { λ x. ⌜ x ≡ record { n = n; votes = votes; coordinator = coordinator; participant = site .participant; log = log } ⌝ }
 {
-    let coordinator = r.coordinator;
-    let site = r.sites[i as usize];
     let participant = site.participant;
-    let store = r.store;
-    let log = store.log_at(j as usize);
     Part {
-        n: r.n,
-        votes: r.votes,
+        n: n,
+        votes: votes,
         coordinator: coordinator,
         participant: participant,
         log: log,
     }
 }
 
-// One step that a reader yields under a header with n. One that is not due leaves the release as it was, and nothing is put back.
+// One step that a reader yields under a header with n. One that is not due leaves the release as it was, and nothing is put back. The sites are
+// copied once, read there and written there.
 pub fn step(r: Release, s: Step) -> Report
     requires { ⌜ (r .n ≤ places) × (inRange (r .n) s ≡ true) × Countable (r .calls) ⌝ }
     ensures { λ report. ⌜ report ≡ step r s ⌝ }
@@ -294,10 +296,19 @@ pub fn step(r: Release, s: Step) -> Report
     let i = participant_place(s);
     let j = log_place(s);
     let messages = r.messages;
-    let x = led(part_of(r, i, j), s, flight(messages, named(s), i));
+    let coordinator = r.coordinator;
+    let store = r.store;
+    let mut sites = r.sites;
+    let site = sites[i as usize];
+    let read = part(r.n, r.votes, coordinator, site, store.log_at(j as usize));
+    let x = led(read, s, flight(messages, named(s), i));
     let outcome = x.outcome;
+    let participant = x.participant;
     if moves(outcome) {
-        let next = put_back(r, dropped(messages, taken(s), i), i, j, caller(s), x);
+        sites[i as usize] = Site {
+            participant: participant,
+        };
+        let next = put_back(r, dropped(messages, taken(s), i), sites, i, j, caller(s), x);
         Report {
             outcome: outcome,
             next: next,

@@ -8,8 +8,6 @@ put-back-spec =
     tie.close
     (tie.spec
     (λ c κs. search needs)
-    (λ c. search needs)
-    (λ c. search needs)
     (λ c κs. search needs)
     (λ c κs. search needs)
-    (λ c. simp (c .counted .ensures, c .before .before .written .ensures, c .before .before .before .before .before .sent .ensures)))
+    (λ c. simp (c .before .before .before .before .before .before .pre .4, c .counted .ensures, c .before .before .written .ensures, c .before .before .before .before .sent .ensures)))
