@@ -1,8 +1,8 @@
 -- The bytes of the state that a single step hands over have room where those of the state given stood. Assumes nothing.
-use mathlib.Core.Path.{_≡_, refl, ap, _∙_}
+use mathlib.Core.Path.{_≡_, refl, _∙_}
 use mathlib.Core.Bool.{Bool, true, false, _&&_}
 use mathlib.Core.List.{List, [], _∷_}
-use Prim.Native.Nat.{ℕ, suc, _*_}
+use Prim.Native.Nat.{ℕ, suc}
 use native.Mathlib.Omega.{arith}
 use lib.ListN.{length}
 use Rattle.store.specs.Log.{places}
@@ -11,7 +11,7 @@ use Rattle.rules.specs.State.{types}
 use Rattle.rules.specs.Report.{moves}
 use Rattle.rules.specs.Step.{step}
 use Rattle.rules.proofs.Room.{after-room}
-use Rattle.tail.specs.Tail.{tabulate, tailOf, releaseOf, fieldsOf, tailInRange}
+use Rattle.tail.specs.Tail.{tailOf, releaseOf, fieldsOf, tailInRange}
 use Rattle.tail.specs.Single.{singleStep}
 use Rattle.tail.proofs.Tabulate.{length-tabulate}
 use Rattle.layout.specs.Tail.{countBytes, tailLength}

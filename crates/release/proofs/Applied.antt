@@ -1,5 +1,5 @@
 -- What the code does of a step, reading the parts that it names, changing them and putting them back, is the step of the rules. Assumes nothing.
-use mathlib.Core.Path.{_≡_, refl, sym, ap, ap₂, _∙_}
+use mathlib.Core.Path.{_≡_, refl, sym, ap, _∙_}
 use mathlib.Core.Bool.{Bool, true, false, cond}
 use mathlib.Core.List.{List, [], _∷_}
 use Prim.Native.Nat.{ℕ, zero, suc, _-_, _≤_, _<_}
@@ -7,7 +7,6 @@ use native.Mathlib.Omega.{arith}
 use lib.Dec.{eqb}
 use lib.ListN.{length, getD, set}
 use borrow.Author.Tests.{ne-eqb}
-use Rattle.mask.specs.Mask.{has, remove}
 use Rattle.mask.proofs.Laws.{remove-absent}
 use Rattle.store.specs.Log.{places, perform}
 use Rattle.participant.specs.Participant
@@ -23,7 +22,7 @@ use Rattle.change.specs.Change as Change
 use Rattle.change.specs.Change.{participantTo, coordinatorTo, participantCalls, coordinatorCalls}
 use Rattle.release.specs.Types.{LogPair, Logged, Performed, Message, Sent, Participant, Transition, NotDue, To, Coordinator, CoordinatorTransition, Step, Outcome, Release, Report}
 use Rattle.release.specs.Types as Types
-use Rattle.release.specs.Applied.{participantPlace, logPlace, caller, named, taken, flight, dropped, sent, counted, partOf, putBack, withMessages, changeOf, applied}
+use Rattle.release.specs.Applied.{participantPlace, caller, taken, flight, partOf, putBack, changeOf, applied}
 
 -- what stands at a place, put there again
 same : {A : Type 0} (l : List A) (i : ℕ) (d : A) → set l i (getD l i d) ≡ l

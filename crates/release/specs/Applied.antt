@@ -7,7 +7,7 @@ use lib.ListN.{getD, set}
 use Rattle.mask.specs.Mask.{has, insert, remove, full}
 use Rattle.rules.specs.State.{participantOf, logOf, maskAt, messagePlace}
 use Rattle.change.specs.Change.{led}
-use Rattle.release.specs.Types.{LogPair, Store, Message, Sent, Step, Release, Report, Part, Change}
+use Rattle.release.specs.Types.{LogPair, Store, Sent, Step, Release, Report, Part, Change}
 
 -- the places of the participant and of the log that a step names, and the party whose call it is; 0 where it names none
 

@@ -2,7 +2,7 @@
 use mathlib.Core.Path.{_≡_, refl, sym, _∙_}
 use mathlib.Core.Bool.{true, false}
 use Rattle.rules.specs.Report.{moves}
-use Rattle.rules.specs.Step.{idle, drop, called, step}
+use Rattle.rules.specs.Step.{idle, drop, step}
 use Rattle.rules.specs.Types.{Step, Release, Report}
 use Rattle.rules.proofs.Causes.{Cause, idles, starts, delivers, copies, loses, answered, lost, coordinator-answered, coordinator-lost, times-out, crashes, restarts, coordinator-times-out, coordinator-crashes, coordinator-restarts, cause}
 use Rattle.rules.proofs.Due.{participant-due, coordinator-due}

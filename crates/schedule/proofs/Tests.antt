@@ -1,5 +1,5 @@
 -- What the reader answers, by its first three tests. Assumes nothing.
-use mathlib.Core.Path.{_≡_, refl, sym, ap, _∙_}
+use mathlib.Core.Path.{_≡_, refl, sym, ap}
 use mathlib.Core.Bool.{Bool, true, false, cond, true≢false}
 use mathlib.Core.List.{List}
 use Prim.Native.Nat.{ℕ, _<_}
@@ -8,7 +8,7 @@ use lib.ListN.{length, getD}
 use borrow.Author.Tests.{leb-false}
 use Rattle.number.specs.Refusal.{headerMisplaced}
 use Rattle.kind.specs.Kind.{kindOf, isKind, bodyLength}
-use Rattle.schedule.specs.Types.{Kind, Before, Read, Found}
+use Rattle.schedule.specs.Types.{Kind, Before, Found}
 use Rattle.schedule.specs.Reader.{refused, isPlaced, bodyAnswer, recordAt, readerAnswers}
 use Rattle.schedule.specs.Found.{kindAt}
 

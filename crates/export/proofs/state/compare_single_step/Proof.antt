@@ -1,5 +1,5 @@
 -- `export::state::compare_single_step` meets its contract, case by case. Assumes nothing.
-use mathlib.Core.Path.{_≡_, refl, sym, ap, _∙_}
+use mathlib.Core.Path.{_≡_, sym, ap, _∙_}
 use mathlib.Core.Bool.{cond}
 use lib.ListN.{length}
 use borrow.Author.Tests.{lt-ltb, le-ltb}

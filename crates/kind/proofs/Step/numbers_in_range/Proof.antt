@@ -3,7 +3,7 @@ use mathlib.Core.Path.{sym, ap, _∙_}
 use Rattle.kind.specs.Kind.{kindNumber}
 use Rattle.kind.specs.Step.{numbersInRange}
 use Rattle.kind.proofs.Ranges.{unknown}
-use borrow.Author.Tests.{eq-eqb, ne-eqb}
+use borrow.Author.Tests.{ne-eqb}
 use borrow.Author.Needs.{needs}
 use Rattle.kind.proofs.Step.numbers_in_range.Statement.{statement}
 use Rattle.kind.proofs.Step.numbers_in_range.Tie as tie

@@ -2,7 +2,6 @@
 use mathlib.Core.Path.{sym}
 use native.Mathlib.Omega.{arith}
 use lib.ListN.{List·getD-eq-default}
-use borrow.Author.Tests.{le-ltb}
 use borrow.Author.Needs.{needs}
 use Rattle.schedule.proofs.reader.byte_at.Statement.{statement}
 use Rattle.schedule.proofs.reader.byte_at.Tie as tie
