@@ -13,7 +13,7 @@ use Rattle.rules.specs.Step.{step}
 use Rattle.rules.proofs.Room.{after-room}
 use Rattle.tail.specs.Tail.{tailOf, releaseOf, fieldsOf, tailInRange}
 use Rattle.tail.specs.Single.{singleStep}
-use Rattle.tail.proofs.Tabulate.{length-tabulate}
+use Rattle.number.proofs.Table.{length-tabulate}
 use Rattle.layout.specs.Tail.{countBytes, tailLength}
 use Rattle.layout.specs.Low.{lowByte, lowFields, lowTail}
 use Rattle.layout.proofs.Laws.{low-length}

@@ -8,7 +8,7 @@ use lib.Seq.{sets}
 use Rattle.number.specs.Refusal.{accepted, tooShort}
 use Rattle.store.specs.Log.{places}
 use Rattle.rules.specs.State.{types}
-use Rattle.tail.specs.Tail.{tabulate}
+use Rattle.number.specs.Table.{tabulate}
 use Rattle.tail.specs.Single.{singleStep}
 use Rattle.layout.specs.Tail.{tailLength}
 use Rattle.layout.specs.Low.{lowTail}

@@ -14,7 +14,7 @@ ghost use Prim.Native.Nat.{suc, _≤_, _<_};
 ghost use lib.ListN.{length};
 ghost use Rattle.store.specs.Log.{places};
 ghost use Rattle.rules.specs.State.{types};
-ghost use Rattle.tail.specs.Tail.{tabulate};
+ghost use Rattle.number.specs.Table.{tabulate};
 ghost use Rattle.layout.specs.Tail.{tailLength};
 ghost use Rattle.layout.specs.Low.{lowTail};
 ghost use Rattle.export.specs.State.{messageAt, fieldsAt, countAt, tailAt, steppedPacked, steppedLeaves, stateAnswers, stateLeaves};

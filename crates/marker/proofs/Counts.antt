@@ -11,7 +11,8 @@ use Rattle.text.specs.Put.{each}
 use Rattle.rules.specs.Run.{after, callsMade}
 use Rattle.rules.proofs.Agreement.{replicate-all}
 use Rattle.rules.proofs.Counts.{calls-counted}
-use Rattle.tail.specs.Tail.{tabulate, fieldsOf, tailOf}
+use Rattle.number.specs.Table.{tabulate}
+use Rattle.tail.specs.Tail.{fieldsOf, tailOf}
 use Rattle.passes.specs.Pass.{freshOf}
 use Rattle.marker.specs.Types.{Step, Header, Release}
 use Rattle.layout.specs.Tail.{fieldBytes, countBytes, tailBytes}

@@ -26,8 +26,9 @@ use Rattle.rules.specs.Run.{after}
 use Rattle.rules.specs.Range.{ReleaseInRange}
 use Rattle.rules.proofs.Reached.{reached-in-range}
 use Rattle.rules.proofs.Room.{SameRoom, after-room}
-use Rattle.tail.specs.Tail.{tabulate, fieldsOf, tailOf}
-use Rattle.tail.proofs.Tabulate.{length-tabulate}
+use Rattle.number.specs.Table.{tabulate}
+use Rattle.tail.specs.Tail.{fieldsOf, tailOf}
+use Rattle.number.proofs.Table.{length-tabulate}
 use Rattle.tail.proofs.Follows.{message-tested}
 use Rattle.marker.specs.Types.{Step, Header, Release, ParticipantFields, Tail}
 use Rattle.text.specs.Put.{each}

@@ -7,7 +7,7 @@ use Prim.Native.Nat.{ℕ}
 use lib.Dec.{eqb}
 use lib.ListN.{replicate, set}
 use Rattle.rules.specs.Step.{participantTo, participantCalls, coordinatorTo, coordinatorCalls}
-use Rattle.tail.specs.Tail.{tabulate, every}
+use Rattle.number.specs.Table.{tabulate, every}
 use Rattle.number.specs.Refusal.{accepted, outOfRange, notDue}
 use Rattle.tail.specs.Types.{ParticipantFields, Tail}
 use Rattle.tail.specs.Single.{singleStep}

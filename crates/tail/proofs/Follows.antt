@@ -21,10 +21,11 @@ use Rattle.rules.specs.State.{participantOf, logOf, firstOf, lastOf, waiting, f
 use Rattle.rules.specs.Step.{step}
 use Rattle.rules.specs.Run.{after, Countable}
 use Rattle.rules.specs.Range.{ReleaseInRange}
-use Rattle.tail.specs.Tail.{tabulate, fieldsOf, tailOf, siteOf, pairOf, fieldsAt, releaseOf, recordsInRange, fieldsZero, participantInRange, participantsInRange, countInRange, tailInRange, TailNumbers}
+use Rattle.number.specs.Table.{tabulate}
+use Rattle.tail.specs.Tail.{fieldsOf, tailOf, siteOf, pairOf, fieldsAt, releaseOf, recordsInRange, fieldsZero, participantInRange, participantsInRange, countInRange, tailInRange, TailNumbers}
 use Rattle.tail.specs.Single.{handed, singleStep, SingleStepFollows}
 use Rattle.tail.specs.Types.{LogPair, Message, Participant, Coordinator, Site, Release, Step, Tail, ParticipantFields}
-use Rattle.tail.proofs.Tabulate.{getD-tabulate, tabulate-list, every-at, every-all}
+use Rattle.number.proofs.Table.{getD-tabulate, tabulate-list, every-at, every-all}
 use Rattle.rules.proofs.Agreement.{Later, later, fresh-inv}
 use Rattle.rules.proofs.Reached.{reached-in-range}
 use Rattle.rules.proofs.Room.{SameRoom, after-room}

@@ -1,4 +1,3 @@
-pub mod Tabulate
 pub mod TailRange
 pub mod SingleCases
 pub mod Follows

@@ -14,7 +14,7 @@ use Rattle.schedule.proofs.Laws.{header-size}
 use Rattle.rules.specs.Run.{Countable}
 use Rattle.tail.specs.Tail.{headerOf, messagesInRange, partiesInRange, countInRange, callsInRange, tailInRange}
 use Rattle.tail.specs.Types.{Tail}
-use Rattle.tail.proofs.Tabulate.{every-at}
+use Rattle.number.proofs.Table.{every-at}
 
 pub n-in-range : (t : Tail) → tailInRange t ≡ true → (1 ≤ t .n) × (t .n ≤ places)
 n-in-range t q = header-size (headerOf t) (and-left (headerInRange (headerOf t)) _ q)

@@ -1,10 +1,10 @@
 -- The fields of the tail: a release as document 01's numbers, and back. What the tail of that n couldn't hold is out of range. Assumes nothing.
 use mathlib.Core.Path.{_≡_}
 use mathlib.Core.Bool.{Bool, true, cond, _&&_}
-use mathlib.Core.List.{List, [], _∷_}
-use Prim.Native.Nat.{ℕ, zero, suc}
+use Prim.Native.Nat.{ℕ, suc}
 use lib.Dec.{eqb, leb, ltb}
 use lib.ListN.{length, getD}
+use Rattle.number.specs.Table.{tabulate, every}
 use Rattle.mask.specs.Mask.{within}
 use Rattle.store.specs.Log.{recordNumber, recordOf, isRecord, isAllowed, places}
 use Rattle.participant.specs.Participant
@@ -13,16 +13,6 @@ use Rattle.schedule.specs.Record.{headerInRange}
 use Rattle.rules.specs.State.{participantOf, logOf, types}
 use Rattle.rules.specs.Run.{countLimit}
 use Rattle.tail.specs.Types.{LogPair, Participant, Header, Site, Release, ParticipantFields, Tail}
-
--- f 0 to f (k - 1), and whether all of k places pass a test
-
-unfoldable pub tabulate : {A : Type 0} → ℕ → (ℕ → A) → List A
-tabulate zero f = []
-tabulate (suc k) f = f 0 ∷ tabulate k (λ i. f (suc i))
-
-unfoldable pub every : (ℕ → Bool) → ℕ → Bool
-every test zero = true
-every test (suc k) = every test k && test k
 
 -- a release in numbers: n, votes, coordinator state and heard mask, five message masks; for participants 1 to 8 state, heard mask, first, last;
 -- for parties 0 to 8 the due store calls made

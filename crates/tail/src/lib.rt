@@ -17,7 +17,8 @@ ghost use mathlib.Core.Bool.{true};
 ghost use Prim.Native.Nat.{_≤_, _<_};
 ghost use Rattle.store.specs.Log.{places};
 ghost use Rattle.rules.specs.State.{participantAt, logAt};
-ghost use Rattle.tail.specs.Tail.{tabulate, fieldsFor, tailOf, siteOf, pairOf, fieldsAt, releaseOf, messagesInRange, recordsInRange, fieldsZero, participantInRange, participantsInRange, partiesInRange, countInRange, callsInRange, tailInRange};
+ghost use Rattle.number.specs.Table.{tabulate};
+ghost use Rattle.tail.specs.Tail.{fieldsFor, tailOf, siteOf, pairOf, fieldsAt, releaseOf, messagesInRange, recordsInRange, fieldsZero, participantInRange, participantsInRange, partiesInRange, countInRange, callsInRange, tailInRange};
 
 // A participant's state, heard mask, and its log's first and last record.
 pub struct ParticipantFields {

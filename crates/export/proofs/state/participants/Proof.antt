@@ -5,7 +5,7 @@ use native.Mathlib.Omega.{arith}
 use lib.ListN.{length}
 use borrow.Author.Needs.{needs}
 use Rattle.store.specs.Log.{places}
-use Rattle.tail.proofs.Tabulate.{upTo, upTo-next, upTo-done}
+use Rattle.number.proofs.Table.{upTo, upTo-next, upTo-done}
 use Rattle.export.specs.State.{fieldsAt}
 use Rattle.export.proofs.state.participants.Statement.{statement}
 use Rattle.export.proofs.state.participants.Tie as tie

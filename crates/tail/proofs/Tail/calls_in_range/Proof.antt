@@ -5,8 +5,9 @@ use Prim.Native.Nat.{_-_, _≤_}
 use native.Mathlib.Omega.{arith}
 use lib.ListN.{getD}
 use borrow.Author.Needs.{needs}
-use Rattle.tail.specs.Tail.{countInRange, every}
-use Rattle.tail.proofs.Tabulate.{every-next, every-done, every-fails}
+use Rattle.number.specs.Table.{every}
+use Rattle.tail.specs.Tail.{countInRange}
+use Rattle.number.proofs.Table.{every-next, every-done, every-fails}
 use Rattle.tail.proofs.Tail.calls_in_range.Statement.{statement}
 use Rattle.tail.proofs.Tail.calls_in_range.Tie as tie
 

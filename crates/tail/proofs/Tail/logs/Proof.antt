@@ -5,7 +5,7 @@ use native.Mathlib.Omega.{arith}
 use lib.ListN.{length, getD}
 use borrow.Author.Needs.{needs}
 use Rattle.tail.specs.Tail.{pairOf}
-use Rattle.tail.proofs.Tabulate.{upTo, upTo-next, upTo-done}
+use Rattle.number.proofs.Table.{upTo, upTo-next, upTo-done}
 use Rattle.tail.proofs.Tail.logs.Statement.{statement}
 use Rattle.tail.proofs.Tail.logs.Tie as tie
 

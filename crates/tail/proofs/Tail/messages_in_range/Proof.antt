@@ -6,8 +6,8 @@ use native.Mathlib.Omega.{arith}
 use lib.ListN.{getD}
 use borrow.Author.Needs.{needs}
 use Rattle.mask.specs.Mask.{within}
-use Rattle.tail.specs.Tail.{every}
-use Rattle.tail.proofs.Tabulate.{every-next, every-done, every-fails}
+use Rattle.number.specs.Table.{every}
+use Rattle.number.proofs.Table.{every-next, every-done, every-fails}
 use Rattle.tail.proofs.Tail.messages_in_range.Statement.{statement}
 use Rattle.tail.proofs.Tail.messages_in_range.Tie as tie
 

@@ -4,8 +4,9 @@ use mathlib.Core.Bool.{true}
 use Prim.Native.Nat.{_-_, _≤_}
 use native.Mathlib.Omega.{arith}
 use borrow.Author.Needs.{needs}
-use Rattle.tail.specs.Tail.{fieldsAt, participantInRange, every}
-use Rattle.tail.proofs.Tabulate.{every-next, every-done, every-fails}
+use Rattle.number.specs.Table.{every}
+use Rattle.tail.specs.Tail.{fieldsAt, participantInRange}
+use Rattle.number.proofs.Table.{every-next, every-done, every-fails}
 use Rattle.tail.proofs.Tail.participants_in_range.Statement.{statement}
 use Rattle.tail.proofs.Tail.participants_in_range.Tie as tie
 

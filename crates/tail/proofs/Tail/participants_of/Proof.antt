@@ -6,7 +6,7 @@ use lib.ListN.{length}
 use borrow.Author.Needs.{needs}
 use Rattle.rules.specs.State.{participantAt, logAt}
 use Rattle.tail.specs.Tail.{fieldsFor}
-use Rattle.tail.proofs.Tabulate.{upTo, upTo-next, upTo-done}
+use Rattle.number.proofs.Table.{upTo, upTo-next, upTo-done}
 use Rattle.tail.proofs.Tail.participants_of.Statement.{statement}
 use Rattle.tail.proofs.Tail.participants_of.Tie as tie
 

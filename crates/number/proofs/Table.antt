@@ -7,8 +7,8 @@ use native.Mathlib.Numerals.{add-one}
 use native.Mathlib.Omega.{arith}
 use native.Mathlib.Decide.{ℕ-discrete}
 use lib.ListN.{length, getD, set}
 use Rattle.number.proofs.Laws.{and-left, and-right, and-true, and-false, false-and}
-use Rattle.tail.specs.Tail.{tabulate, every}
+use Rattle.number.specs.Table.{tabulate, every}
 
 -- the first i elements are those of f, the rest as they were
 abbrev pub upTo : {A : Type 0} → ℕ → (ℕ → A) → List A → List A

@@ -1,0 +1,150 @@
+-- The state of a release as a list of numbers, and its parts read from there and put there. Places count from 0. That a part put into the list of a
+-- release is that part of the release is proved in `proofs/Parts.antt`. Assumes nothing.
+use mathlib.Core.Path.{_≡_}
+use mathlib.Core.List.{List, [], _∷_, map, flatten}
+use Prim.Native.Nat.{ℕ, suc, _+_, _%_}
+use lib.ListN.{length, getD, set}
+use Rattle.number.specs.Table.{tabulate}
+use Rattle.store.specs.Log.{recordNumber, recordOf, places}
+use Rattle.participant.specs.Participant
+use Rattle.coordinator.specs.Coordinator
+use Rattle.rules.specs.State.{types, messagePlace}
+use Rattle.state.specs.Types.{LogPair, Message, Participant, Coordinator, Site, Release}
+
+-- what is kept of each participant and log
+
+abbrev pub siteState : Site → ℕ
+siteState s = Participant.stateNumber (s .participant)
+
+abbrev pub siteHeard : Site → ℕ
+siteHeard s = Participant.heardOf (s .participant)
+
+abbrev pub firstRecord : LogPair → ℕ
+firstRecord l = recordNumber (l .first)
+
+abbrev pub lastRecord : LogPair → ℕ
+lastRecord l = recordNumber (l .last)
+
+-- n, votes, coordinator state and heard mask; a mask for each type of message; states; heard masks; first records; last records; counts of calls
+abbrev pub pieces : Release → List (List ℕ)
+pieces r =
+    (r .n ∷ r .votes ∷ Coordinator.stateNumber (r .coordinator) ∷ Coordinator.heardOf (r .coordinator) ∷ [])
+    ∷ r .messages
+    ∷ map siteState (r .sites)
+    ∷ map siteHeard (r .sites)
+    ∷ map firstRecord (r .store .logs)
+    ∷ map lastRecord (r .store .logs)
+    ∷ r .calls
+    ∷ []
+
+-- one after the other
+unfoldable pub fields : Release → List ℕ
+fields r = flatten (pieces r)
+
+-- where they begin
+
+abbrev pub messagesFrom : ℕ
+messagesFrom = 4
+
+abbrev pub statesFrom : ℕ
+statesFrom = 9
+
+abbrev pub heardFrom : ℕ
+heardFrom = 17
+
+abbrev pub firstsFrom : ℕ
+firstsFrom = 25
+
+abbrev pub lastsFrom : ℕ
+lastsFrom = 33
+
+abbrev pub countsFrom : ℕ
+countsFrom = 41
+
+-- a release has a place for each participant, log, type of message and party
+pub record HasPlaces (r : Release) : Type 0 where
+  pub sites : length (r .sites) ≡ places
+  pub logs : length (r .store .logs) ≡ places
+  pub messages : length (r .messages) ≡ types
+  pub calls : length (r .calls) ≡ suc places
+
+-- a part read
+
+abbrev pub votesIn : List ℕ → ℕ
+votesIn l = getD l 1 0
+
+unfoldable pub coordinatorIn : List ℕ → Coordinator
+coordinatorIn l = Coordinator.coordinatorOf (getD l 2 0) (getD l 3 0)
+
+unfoldable pub maskPlace : Message → ℕ
+maskPlace m = messagesFrom + messagePlace m
+
+unfoldable pub maskIn : List ℕ → Message → ℕ
+maskIn l m = getD l (maskPlace m) 0
+
+unfoldable pub participantIn : List ℕ → ℕ → Participant
+participantIn l i = Participant.participantOf (getD l (statesFrom + i) 0) (getD l (heardFrom + i) 0)
+
+unfoldable pub logIn : List ℕ → ℕ → LogPair
+logIn l j = record { first = recordOf (getD l (firstsFrom + j) 0); last = recordOf (getD l (lastsFrom + j) 0) }
+
+-- a part put
+
+unfoldable pub withCoordinatorIn : Coordinator → List ℕ → List ℕ
+withCoordinatorIn c l = set (set l 2 (Coordinator.stateNumber c)) 3 (Coordinator.heardOf c)
+
+unfoldable pub withMaskIn : Message → ℕ → List ℕ → List ℕ
+withMaskIn m x l = set l (maskPlace m) x
+
+unfoldable pub withParticipantIn : ℕ → Participant → List ℕ → List ℕ
+withParticipantIn i p l = set (set l (statesFrom + i) (Participant.stateNumber p)) (heardFrom + i) (Participant.heardOf p)
+
+unfoldable pub withLogIn : ℕ → LogPair → List ℕ → List ℕ
+withLogIn j x l = set (set l (firstsFrom + j) (recordNumber (x .first))) (lastsFrom + j) (recordNumber (x .last))
+
+unfoldable pub countedIn : ℕ → List ℕ → List ℕ
+countedIn p l = set l (countsFrom + p) (getD l (countsFrom + p) 0 + 1)
+
+-- the release that the numbers are of. A count has two bytes
+
+abbrev pub messageIn : List ℕ → ℕ → ℕ
+messageIn l k = getD l (messagesFrom + k) 0
+
+abbrev pub siteIn : List ℕ → ℕ → Site
+siteIn l i = record { participant = participantIn l i }
+
+abbrev pub countIn : List ℕ → ℕ → ℕ
+countIn l p = getD l (countsFrom + p) 0 % 65536
+
+abbrev pub releaseIn : List ℕ → Release
+releaseIn l =
+    record {
+      n = getD l 0 0;
+      votes = votesIn l;
+      coordinator = coordinatorIn l;
+      messages = tabulate types (messageIn l);
+      sites = tabulate places (siteIn l);
+      store = record { logs = tabulate places (logIn l) };
+      calls = tabulate (suc places) (countIn l);
+    }
+
+-- a whole piece put: the numbers after are those of the release so changed, whatever release those before are of
+
+abbrev pub Puts : (Release → Release) → List ℕ → List ℕ → Type 0
+Puts f before after = (r : Release) → HasPlaces r → before ≡ fields r → after ≡ fields (f r)
+
+abbrev pub withMessages : List ℕ → Release → Release
+withMessages l r =
+    record { n = r .n; votes = r .votes; coordinator = r .coordinator; messages = l; sites = r .sites; store = r .store; calls = r .calls }
+
+abbrev pub withSites : List Site → Release → Release
+withSites l r =
+    record { n = r .n; votes = r .votes; coordinator = r .coordinator; messages = r .messages; sites = l; store = r .store; calls = r .calls }
+
+abbrev pub withLogs : List LogPair → Release → Release
+withLogs l r =
+    record { n = r .n; votes = r .votes; coordinator = r .coordinator; messages = r .messages; sites = r .sites; store = record { logs = l }; calls = r .calls }
+
+abbrev pub withCalls : List ℕ → Release → Release
+withCalls l r =
+    record { n = r .n; votes = r .votes; coordinator = r .coordinator; messages = r .messages; sites = r .sites; store = r .store; calls = l }
