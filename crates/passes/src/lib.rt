@@ -1,15 +1,10 @@
 // The two passes over a schedule: the first validates from the left and counts, so that a refusal touches nothing; the second steps and writes a
 // byte a step.
-use coordinator::Coordinator;
 use kind::Kind;
 use number::EMPTY_OR_TOO_LONG;
-use participant::Participant;
-use release::step::report_byte;
+use release::outcome::report_byte;
 use release::step::step;
-use rules::PARTIES;
 use rules::Release;
-use rules::Site;
-use rules::TYPES;
 use schedule::Header;
 use schedule::LONGEST;
 use schedule::reader::Before;
@@ -17,10 +12,8 @@ use schedule::reader::Read;
 use schedule::reader::length_at;
 use schedule::reader::read_record;
 use schedule::reader::step_at;
-use store::LOGS;
-use store::LogPair;
-use store::LogRecord;
-use store::Store;
+use state::fresh;
+use state::release;
 ghost use mathlib.Core.Path.{_≡_};
 ghost use Prim.Native.Nat.{_≤_};
 ghost use lib.ListN.{length};
@@ -82,47 +75,24 @@ pub fn validate(schedule: &[u8]) -> Validated
     count_steps(schedule, start, r.header())
 }
 
-// The release that a header begins.
-fn fresh(header: Header) -> Release
-    ensures { λ r. ⌜ r ≡ freshOf header ⌝ }
-{
-    let messages = [0u32; TYPES];
-    let sites = [Site {
-        participant: Participant::Waiting,
-    }; LOGS];
-    let logs = [LogPair {
-        first: LogRecord::None,
-        last: LogRecord::None,
-    }; LOGS];
-    let calls = [0u16; PARTIES];
-    Release {
-        n: header.n,
-        votes: header.votes,
-        coordinator: Coordinator::Idle,
-        messages: messages,
-        sites: sites,
-        store: Store { logs: logs },
-        calls: calls,
-    }
-}
-
 // The second pass: takes the steps of a schedule that was validated, writes a byte for each, and answers the release that they leave. What the
-// first pass tested is not tested again.
+// first pass tested is not tested again. The release is kept as numbers, which each step changes in place.
 pub fn run_steps(schedule: &[u8], header: Header, count: usize, report: &mut [u8]) -> Release
     requires { ⌜ (validated (readSchedule (now schedule)) ≡ Validated.Steps header count) × (count ≤ length (now report)) ⌝ }
     ensures { λ r. ⌜ (r ≡ after (freshOf header) (stepsOf (readSchedule (now (schedule .entry)))))
         × (now (report .exit) ≡ sets (now (report .entry)) 0 (stepBytes (freshOf header) (stepsOf (readSchedule (now (schedule .entry)))))) ⌝ }
 {
+    let n = header.n;
+    let mut fields = fresh(n, header.votes);
     let mut at = FIRST_STEP;
     let mut i: usize = 0;
-    let mut release = fresh(header);
     while at < schedule.len() {
-        let stepped = step(release, step_at(&schedule[at..]));
-        let outcome = stepped.outcome;
+        let s = step_at(&schedule[at..]);
+        let size = length_at(&schedule[at..]);
+        let outcome = step(&mut fields, n, s);
         report[i] = report_byte(outcome);
-        release = stepped.next;
-        at = at + length_at(&schedule[at..]);
+        at = at + size;
         i = i + 1;
     }
-    release
+    release(&fields)
 }

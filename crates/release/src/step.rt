@@ -1,322 +1,364 @@
-// One step of a release: the parts that the step names are read, changed and put back. `i` and `j` are places, which count from 0; `p` and `q`
-// are the numbers of a party and of a log.
-use change::Change;
-use change::Part;
-use change::led;
+// One step of a release, in place: `fields` are the numbers of the release, and a step changes those of the parts that it names. A contract says
+// what this is for the release that the numbers are of. `i` and `j` are places, which count from 0; `p` and `q` are the numbers of a party and of a
+// log; `n` is the release's own.
+use super::outcome::coordinator_known;
+use super::outcome::known;
+use super::outcome::learnt;
 use coordinator::Coordinator;
 use kind::Step;
+use message::Decision;
 use message::Message;
 use message::Sent;
+use participant::Participant;
 use rules::Outcome;
-use rules::PARTIES;
-use rules::Release;
-use rules::Report;
-use rules::Site;
-use rules::TYPES;
-use store::LOGS;
-use store::LogPair;
-use store::Store;
+use state::FIELDS;
+use state::coordinator;
+use state::count_call;
+use state::log_at;
+use state::mask_of;
+use state::participant_at;
+use state::put_coordinator;
+use state::put_log;
+use state::put_mask;
+use state::put_participant;
+use state::votes;
+use store::Logged;
+use store::Performed;
 ghost use mathlib.Core.Path.{_≡_};
-ghost use mathlib.Core.Bool.{true, cond};
-ghost use Prim.Native.Nat.{suc, _-_, _≤_, _<_};
-ghost use lib.ListN.{getD, set};
-ghost use Rattle.mask.specs.Mask.{insert, full};
+ghost use mathlib.Core.Bool.{true};
+ghost use Prim.Native.Nat.{suc, _≤_, _<_};
+ghost use Rattle.mask.specs.Mask.{has};
 ghost use Rattle.store.specs.Log.{places};
 ghost use Rattle.kind.specs.Step.{inRange};
-ghost use Rattle.rules.specs.State.{messagePlace, maskAt};
-ghost use Rattle.rules.specs.Report.{outcomeNumber, moves};
-ghost use Rattle.rules.specs.Step.{step};
-ghost use Rattle.rules.specs.Run.{countLimit, Countable};
-ghost use Rattle.release.specs.Applied.{participantPlace, logPlace, caller, named, taken, flight, dropped, sent, written, counted, putBack, withMessages};
+ghost use Rattle.kind.specs.declared.Step.{Step};
+ghost use Rattle.rules.specs.Step.{drop, reply, participantTo, participantGoes, broadcast, coordinatorTo, coordinatorGoes, receive, participantAnswered, participantPerformed, participantCalls, coordinatorAnswered, coordinatorPerformed, coordinatorCalls, calls, step};
+ghost use Rattle.state.specs.Fields.{maskIn, Puts};
+ghost use Rattle.release.specs.Leads.{PutsUnder, Leads, LeadsUnder, CanCount};
 
-// Whether the step was due.
-pub fn moves(o: Outcome) -> bool
-    ensures { λ b. ⌜ b ≡ moves o ⌝ }
-{
-    match o {
-        Outcome::Idle => false,
-        Outcome::Moved => true,
-        Outcome::Commit => true,
-        Outcome::Abort => true,
-    }
-}
-
-// The report byte.
-pub fn report_byte(o: Outcome) -> u8
-    ensures { λ k. ⌜ k ≡ outcomeNumber o ⌝ }
-{
-    match o {
-        Outcome::Idle => 0,
-        Outcome::Moved => 1,
-        Outcome::Commit => 2,
-        Outcome::Abort => 3,
-    }
-}
-
-// The place of a number. Number 0 is the coordinator, which has none.
-fn place(p: u32) -> u32
-    ensures { λ i. ⌜ i ≡ p - 1 ⌝ }
-{
-    if p == 0 { 0 } else { p - 1 }
-}
-
-// The place of the participant that a step names.
-fn participant_place(s: Step) -> u32
-    ensures { λ i. ⌜ i ≡ participantPlace s ⌝ }
+// Participant i sends its reply.
+fn send(fields: &mut [u32; FIELDS], s: Sent, i: u32)
+    requires { ⌜ i < places ⌝ }
+    ensures { λ _. ⌜ Puts (reply s i) (now (fields .entry)) (now (fields .exit)) ⌝ }
 {
     match s {
-        Step::Start => 0,
-        Step::Deliver(_, p) => place(p),
-        Step::Copy(_, p) => place(p),
-        Step::Lose(_, p) => place(p),
-        Step::Call(p, _) => place(p),
-        Step::CallLost(p, _) => place(p),
-        Step::Timeout(p) => place(p),
-        Step::Crash(p) => place(p),
-        Step::Restart(p) => place(p),
+        Sent::Nothing => {}
+        Sent::Sends(m) => {
+            let old = mask_of(fields, m);
+            put_mask(fields, m, mask::insert(old, i));
+        }
     }
 }
 
-// The place of the log that a step names.
-fn log_place(s: Step) -> u32
-    ensures { λ j. ⌜ j ≡ logPlace s ⌝ }
+// The coordinator sends to all.
+fn send_all(fields: &mut [u32; FIELDS], n: u32, s: Sent)
+    requires { ⌜ n ≤ places ⌝ }
+    ensures { λ _. ⌜ PutsUnder n (broadcast s) (now (fields .entry)) (now (fields .exit)) ⌝ }
 {
     match s {
-        Step::Start => 0,
-        Step::Deliver(_, _) => 0,
-        Step::Copy(_, _) => 0,
-        Step::Lose(_, _) => 0,
-        Step::Call(_, q) => place(q),
-        Step::CallLost(_, q) => place(q),
-        Step::Timeout(_) => 0,
-        Step::Crash(_) => 0,
-        Step::Restart(_) => 0,
-    }
-}
-
-// The party whose call a step is.
-fn caller(s: Step) -> u32
-    ensures { λ p. ⌜ p ≡ caller s ⌝ }
-{
-    match s {
-        Step::Start => 0,
-        Step::Deliver(_, _) => 0,
-        Step::Copy(_, _) => 0,
-        Step::Lose(_, _) => 0,
-        Step::Call(p, _) => p,
-        Step::CallLost(p, _) => p,
-        Step::Timeout(_) => 0,
-        Step::Crash(_) => 0,
-        Step::Restart(_) => 0,
-    }
-}
-
-// The message that a step names.
-fn named(s: Step) -> Sent
-    ensures { λ m. ⌜ m ≡ named s ⌝ }
-{
-    match s {
-        Step::Start => Sent::Nothing,
-        Step::Deliver(m, _) => Sent::Sends(m),
-        Step::Copy(m, _) => Sent::Sends(m),
-        Step::Lose(m, _) => Sent::Sends(m),
-        Step::Call(_, _) => Sent::Nothing,
-        Step::CallLost(_, _) => Sent::Nothing,
-        Step::Timeout(_) => Sent::Nothing,
-        Step::Crash(_) => Sent::Nothing,
-        Step::Restart(_) => Sent::Nothing,
-    }
-}
-
-// The message that a step takes out of flight.
-fn taken(s: Step) -> Sent
-    ensures { λ m. ⌜ m ≡ taken s ⌝ }
-{
-    match s {
-        Step::Start => Sent::Nothing,
-        Step::Deliver(m, _) => Sent::Sends(m),
-        Step::Copy(_, _) => Sent::Nothing,
-        Step::Lose(m, _) => Sent::Sends(m),
-        Step::Call(_, _) => Sent::Nothing,
-        Step::CallLost(_, _) => Sent::Nothing,
-        Step::Timeout(_) => Sent::Nothing,
-        Step::Crash(_) => Sent::Nothing,
-        Step::Restart(_) => Sent::Nothing,
-    }
-}
-
-// The mask of the messages of a type.
-fn mask_at(masks: [u32; TYPES], m: Message) -> u32
-    ensures { λ x. ⌜ x ≡ maskAt masks m ⌝ }
-{
-    match m {
-        Message::Request => masks[0],
-        Message::ReplyYes => masks[1],
-        Message::ReplyAbort => masks[2],
-        Message::Commit => masks[3],
-        Message::Abort => masks[4],
-    }
-}
-
-// The masks with another one of a type. A case a type, so that each place is a number that the compiler knows.
-fn with_mask(masks: [u32; TYPES], m: Message, x: u32) -> [u32; TYPES]
-    ensures { λ l. ⌜ l ≡ set masks (messagePlace m) x ⌝ }
-{
-    match m {
-        Message::Request => [x, masks[1], masks[2], masks[3], masks[4]],
-        Message::ReplyYes => [masks[0], x, masks[2], masks[3], masks[4]],
-        Message::ReplyAbort => [masks[0], masks[1], x, masks[3], masks[4]],
-        Message::Commit => [masks[0], masks[1], masks[2], x, masks[4]],
-        Message::Abort => [masks[0], masks[1], masks[2], masks[3], x],
+        Sent::Nothing => {}
+        Sent::Sends(m) => put_mask(fields, m, mask::full(n)),
     }
 }
 
 // Whether a message to or from participant i is in flight.
-fn flight(masks: [u32; TYPES], m: Sent, i: u32) -> bool
-    ensures { λ b. ⌜ b ≡ flight masks m i ⌝ }
+fn in_flight(fields: &[u32; FIELDS], m: Message, i: u32) -> bool
+    ensures { λ b. ⌜ b ≡ has i (maskIn (now (fields .entry)) m) ⌝ }
 {
+    mask::has(mask_of(fields, m), i)
+}
+
+// It is in flight no longer.
+fn drop(fields: &mut [u32; FIELDS], m: Message, i: u32)
+    ensures { λ _. ⌜ Puts (drop m i) (now (fields .entry)) (now (fields .exit)) ⌝ }
+{
+    let old = mask_of(fields, m);
+    put_mask(fields, m, mask::remove(old, i));
+}
+
+// Participant i goes to a state and sends its reply.
+fn participant_to(fields: &mut [u32; FIELDS], i: u32, p: Participant, s: Sent) -> Outcome
+    requires { ⌜ i < places ⌝ }
+    ensures { λ o. ⌜ Leads (participantTo i p s) (now (fields .entry)) o (now (fields .exit)) ⌝ }
+{
+    let old = participant_at(fields, i);
+    send(fields, s, i);
+    put_participant(fields, i, p);
+    learnt(known(old), known(p))
+}
+
+fn participant_goes(fields: &mut [u32; FIELDS], i: u32, t: participant::Transition) -> Outcome
+    requires { ⌜ i < places ⌝ }
+    ensures { λ o. ⌜ Leads (participantGoes i t) (now (fields .entry)) o (now (fields .exit)) ⌝ }
+{
+    match t {
+        participant::Transition::NotDue => Outcome::Idle,
+        participant::Transition::To(p, s) => participant_to(fields, i, p, s),
+    }
+}
+
+// The coordinator goes to a state and sends to all.
+fn coordinator_to(fields: &mut [u32; FIELDS], n: u32, c: Coordinator, s: Sent) -> Outcome
+    requires { ⌜ n ≤ places ⌝ }
+    ensures { λ o. ⌜ LeadsUnder n (coordinatorTo c s) (now (fields .entry)) o (now (fields .exit)) ⌝ }
+{
+    let old = coordinator(fields);
+    send_all(fields, n, s);
+    put_coordinator(fields, c);
+    learnt(coordinator_known(old), coordinator_known(c))
+}
+
+fn coordinator_goes(
+    fields: &mut [u32; FIELDS],
+    n: u32,
+    t: coordinator::Transition,
+) -> Outcome
+    requires { ⌜ n ≤ places ⌝ }
+    ensures { λ o. ⌜ LeadsUnder n (coordinatorGoes t) (now (fields .entry)) o (now (fields .exit)) ⌝ }
+{
+    match t {
+        coordinator::Transition::NotDue => Outcome::Idle,
+        coordinator::Transition::To(c, s) => coordinator_to(fields, n, c, s),
+    }
+}
+
+// A message is delivered: requests and decisions to participant i, replies from it to the coordinator.
+fn receive(fields: &mut [u32; FIELDS], n: u32, m: Message, i: u32) -> Outcome
+    requires { ⌜ (n ≤ places) × (i < places) ⌝ }
+    ensures { λ o. ⌜ LeadsUnder n (receive m i) (now (fields .entry)) o (now (fields .exit)) ⌝ }
+{
+    let c = coordinator(fields);
+    let p = participant_at(fields, i);
+    let vote = mask::has(votes(fields), i);
     match m {
-        Sent::Nothing => false,
-        Sent::Sends(t) => mask::has(mask_at(masks, t), i),
+        Message::Request => participant_to(fields, i, p.request(vote), Sent::Nothing),
+        Message::ReplyYes => coordinator_goes(fields, n, c.reply_yes(n, i)),
+        Message::ReplyAbort => coordinator_goes(fields, n, c.reply_abort()),
+        Message::Commit => participant_to(fields, i, p.decision(Decision::Commit), Sent::Nothing),
+        Message::Abort => participant_to(fields, i, p.decision(Decision::Abort), Sent::Nothing),
     }
 }
 
-// The masks without a message to or from participant i.
-fn dropped(masks: [u32; TYPES], m: Sent, i: u32) -> [u32; TYPES]
-    ensures { λ l. ⌜ l ≡ dropped masks m i ⌝ }
+fn deliver(fields: &mut [u32; FIELDS], n: u32, m: Message, i: u32) -> Outcome
+    requires { ⌜ (n ≤ places) × (i < places) ⌝ }
+    ensures { λ o. ⌜ LeadsUnder n (λ r. step r (Step.Deliver m (suc i))) (now (fields .entry)) o (now (fields .exit)) ⌝ }
 {
-    match m {
-        Sent::Nothing => masks,
-        Sent::Sends(t) => with_mask(masks, t, mask::remove(mask_at(masks, t), i)),
-    }
-}
-
-// The mask of a type that is sent: to all, or by participant i.
-fn sent_mask(old: u32, all: bool, n: u32, i: u32) -> u32
-    requires { ⌜ (n ≤ 32) × (i < 32) ⌝ }
-    ensures { λ x. ⌜ x ≡ cond all (full n) (insert i old) ⌝ }
-{
-    if all {
-        mask::full(n)
+    if in_flight(fields, m, i) {
+        drop(fields, m, i);
+        receive(fields, n, m, i)
     } else {
-        mask::insert(old, i)
+        Outcome::Idle
     }
 }
 
-// The masks with what is sent.
-fn sent(masks: [u32; TYPES], m: Sent, all: bool, n: u32, i: u32) -> [u32; TYPES]
-    requires { ⌜ (n ≤ 32) × (i < 32) ⌝ }
-    ensures { λ l. ⌜ l ≡ sent masks m all n i ⌝ }
+// The message stays in flight.
+fn deliver_copy(fields: &mut [u32; FIELDS], n: u32, m: Message, i: u32) -> Outcome
+    requires { ⌜ (n ≤ places) × (i < places) ⌝ }
+    ensures { λ o. ⌜ LeadsUnder n (λ r. step r (Step.Copy m (suc i))) (now (fields .entry)) o (now (fields .exit)) ⌝ }
 {
-    match m {
-        Sent::Nothing => masks,
-        Sent::Sends(t) => with_mask(masks, t, sent_mask(mask_at(masks, t), all, n, i)),
-    }
-}
-
-// The logs with the one that a call left.
-fn written(store: Store, j: u32, l: LogPair, called: bool) -> Store
-    ensures { λ next. ⌜ next ≡ written store j l called ⌝ }
-{
-    if called {
-        store.with_log(j as usize, l)
+    if in_flight(fields, m, i) {
+        receive(fields, n, m, i)
     } else {
-        store
+        Outcome::Idle
     }
 }
 
-// One call more of party p, where there was one.
-fn counted(counts: [u16; PARTIES], p: u32, called: bool) -> [u16; PARTIES]
-    requires { ⌜ (p < suc places) × (getD counts p 0 < countLimit) ⌝ }
-    ensures { λ l. ⌜ l ≡ counted counts p called ⌝ }
+fn lose(fields: &mut [u32; FIELDS], m: Message, i: u32) -> Outcome
+    ensures { λ o. ⌜ Leads (λ r. step r (Step.Lose m (suc i))) (now (fields .entry)) o (now (fields .exit)) ⌝ }
 {
-    if called {
-        let mut next = counts;
-        let k = p as usize;
-        next[k] = counts[k] + 1;
-        next
+    if in_flight(fields, m, i) {
+        drop(fields, m, i);
+        Outcome::Moved
     } else {
-        counts
+        Outcome::Idle
     }
 }
 
-// The release after a change of the parts at these places. `masks` are those of the messages, and `sites` has the participant.
-fn put_back(
-    r: Release,
-    masks: [u32; TYPES],
-    sites: [Site; LOGS],
+// What a performed call of participant i on log j leads to: the log changes, and where the answer is heard the participant does too.
+fn participant_answered(
+    fields: &mut [u32; FIELDS],
+    heard: bool,
     i: u32,
     j: u32,
-    p: u32,
-    x: Change,
-) -> Release
-    requires { ⌜ (r .n ≤ 32) × (i < places) × (p < suc places) × (getD (r .calls) p 0 < countLimit)
-        × (sites ≡ set (r .sites) i (record { participant = x .participant })) ⌝ }
-    ensures { λ next. ⌜ next ≡ putBack i j p x (withMessages masks r) ⌝ }
+    l: Logged,
+    t: participant::Transition,
+) -> Outcome
+    requires { ⌜ (i < places) × (j < places) × CanCount (now fields) ⌝ }
+    ensures { λ o. ⌜ Leads (participantAnswered heard i j l t) (now (fields .entry)) o (now (fields .exit)) ⌝ }
 {
-    let coordinator = x.coordinator;
-    let log = x.log;
-    let m = x.sent;
-    let messages = sent(masks, m, x.all, r.n, i);
-    let store = r.store;
-    let logs = written(store, j, log, x.called);
-    let before = r.calls;
-    let calls = counted(before, p, x.called);
-    Release {
-        n: r.n,
-        votes: r.votes,
-        coordinator: coordinator,
-        messages: messages,
-        sites: sites,
-        store: logs,
-        calls: calls,
-    }
-}
-
-// The parts that a step reads.
-fn part(n: u32, votes: u32, coordinator: Coordinator, site: Site, log: LogPair) -> Part
-    ensures { λ x. ⌜ x ≡ record { n = n; votes = votes; coordinator = coordinator; participant = site .participant; log = log } ⌝ }
-{
-    let participant = site.participant;
-    Part {
-        n: n,
-        votes: votes,
-        coordinator: coordinator,
-        participant: participant,
-        log: log,
-    }
-}
-
-// One step that a reader yields under a header with n. One that is not due leaves the release as it was, and nothing is put back. The sites are
-// copied once, read there and written there.
-pub fn step(r: Release, s: Step) -> Report
-    requires { ⌜ (r .n ≤ places) × (inRange (r .n) s ≡ true) × Countable (r .calls) ⌝ }
-    ensures { λ report. ⌜ report ≡ step r s ⌝ }
-{
-    let i = participant_place(s);
-    let j = log_place(s);
-    let messages = r.messages;
-    let coordinator = r.coordinator;
-    let store = r.store;
-    let mut sites = r.sites;
-    let site = sites[i as usize];
-    let read = part(r.n, r.votes, coordinator, site, store.log_at(j as usize));
-    let x = led(read, s, flight(messages, named(s), i));
-    let outcome = x.outcome;
-    let participant = x.participant;
-    if moves(outcome) {
-        sites[i as usize] = Site {
-            participant: participant,
-        };
-        let next = put_back(r, dropped(messages, taken(s), i), sites, i, j, caller(s), x);
-        Report {
-            outcome: outcome,
-            next: next,
+    match t {
+        participant::Transition::NotDue => Outcome::Idle,
+        participant::Transition::To(p, s) => {
+            let log = l.log;
+            count_call(fields, i + 1);
+            put_log(fields, j, log);
+            if heard {
+                participant_to(fields, i, p, s)
+            } else {
+                Outcome::Moved
+            }
         }
+    }
+}
+
+fn participant_performed(
+    fields: &mut [u32; FIELDS],
+    n: u32,
+    heard: bool,
+    i: u32,
+    j: u32,
+    l: Performed,
+) -> Outcome
+    requires { ⌜ (n ≤ places) × (i < places) × (j < places) × CanCount (now fields) ⌝ }
+    ensures { λ o. ⌜ LeadsUnder n (participantPerformed heard i j l) (now (fields .entry)) o (now (fields .exit)) ⌝ }
+{
+    match l {
+        Performed::Refused => Outcome::Idle,
+        Performed::Done(done) => {
+            let answer = done.answer;
+            let p = participant_at(fields, i);
+            participant_answered(fields, heard, i, j, done, p.answer(n, i, j, answer))
+        }
+    }
+}
+
+fn participant_calls(fields: &mut [u32; FIELDS], n: u32, heard: bool, i: u32, j: u32) -> Outcome
+    requires { ⌜ (n ≤ places) × (i < places) × (j < places) × CanCount (now fields) ⌝ }
+    ensures { λ o. ⌜ LeadsUnder n (participantCalls heard i j) (now (fields .entry)) o (now (fields .exit)) ⌝ }
+{
+    let p = participant_at(fields, i);
+    let log = log_at(fields, j);
+    participant_performed(fields, n, heard, i, j, log.perform(p.pending(i, j)))
+}
+
+// The same for the coordinator.
+fn coordinator_answered(
+    fields: &mut [u32; FIELDS],
+    n: u32,
+    heard: bool,
+    j: u32,
+    l: Logged,
+    t: coordinator::Transition,
+) -> Outcome
+    requires { ⌜ (n ≤ places) × (j < places) × CanCount (now fields) ⌝ }
+    ensures { λ o. ⌜ LeadsUnder n (coordinatorAnswered heard j l t) (now (fields .entry)) o (now (fields .exit)) ⌝ }
+{
+    match t {
+        coordinator::Transition::NotDue => Outcome::Idle,
+        coordinator::Transition::To(c, s) => {
+            let log = l.log;
+            count_call(fields, 0);
+            put_log(fields, j, log);
+            if heard {
+                coordinator_to(fields, n, c, s)
+            } else {
+                Outcome::Moved
+            }
+        }
+    }
+}
+
+fn coordinator_performed(
+    fields: &mut [u32; FIELDS],
+    n: u32,
+    heard: bool,
+    j: u32,
+    l: Performed,
+) -> Outcome
+    requires { ⌜ (n ≤ places) × (j < places) × CanCount (now fields) ⌝ }
+    ensures { λ o. ⌜ LeadsUnder n (coordinatorPerformed heard j l) (now (fields .entry)) o (now (fields .exit)) ⌝ }
+{
+    match l {
+        Performed::Refused => Outcome::Idle,
+        Performed::Done(done) => {
+            let answer = done.answer;
+            let c = coordinator(fields);
+            coordinator_answered(fields, n, heard, j, done, c.answer(n, j, answer))
+        }
+    }
+}
+
+fn coordinator_calls(fields: &mut [u32; FIELDS], n: u32, heard: bool, j: u32) -> Outcome
+    requires { ⌜ (n ≤ places) × (j < places) × CanCount (now fields) ⌝ }
+    ensures { λ o. ⌜ LeadsUnder n (coordinatorCalls heard j) (now (fields .entry)) o (now (fields .exit)) ⌝ }
+{
+    let c = coordinator(fields);
+    let log = log_at(fields, j);
+    coordinator_performed(fields, n, heard, j, log.perform(c.pending(j)))
+}
+
+// A call of party p on the log at place j.
+fn calls(fields: &mut [u32; FIELDS], n: u32, heard: bool, p: u32, j: u32) -> Outcome
+    requires { ⌜ (n ≤ places) × (p ≤ places) × (j < places) × CanCount (now fields) ⌝ }
+    ensures { λ o. ⌜ LeadsUnder n (calls heard p (suc j)) (now (fields .entry)) o (now (fields .exit)) ⌝ }
+{
+    if p == 0 {
+        coordinator_calls(fields, n, heard, j)
     } else {
-        Report {
-            outcome: Outcome::Idle,
-            next: r,
-        }
+        participant_calls(fields, n, heard, p - 1, j)
+    }
+}
+
+fn start(fields: &mut [u32; FIELDS], n: u32) -> Outcome
+    requires { ⌜ n ≤ places ⌝ }
+    ensures { λ o. ⌜ LeadsUnder n (λ r. step r Step.Start) (now (fields .entry)) o (now (fields .exit)) ⌝ }
+{
+    let c = coordinator(fields);
+    coordinator_goes(fields, n, c.start())
+}
+
+fn timeout(fields: &mut [u32; FIELDS], n: u32, p: u32) -> Outcome
+    requires { ⌜ (n ≤ places) × (p ≤ places) ⌝ }
+    ensures { λ o. ⌜ LeadsUnder n (λ r. step r (Step.Timeout p)) (now (fields .entry)) o (now (fields .exit)) ⌝ }
+{
+    if p == 0 {
+        let c = coordinator(fields);
+        coordinator_goes(fields, n, c.timeout())
+    } else {
+        let own = participant_at(fields, p - 1);
+        participant_goes(fields, p - 1, own.timeout(n, p - 1))
+    }
+}
+
+fn crash(fields: &mut [u32; FIELDS], n: u32, p: u32) -> Outcome
+    requires { ⌜ (n ≤ places) × (p ≤ places) ⌝ }
+    ensures { λ o. ⌜ LeadsUnder n (λ r. step r (Step.Crash p)) (now (fields .entry)) o (now (fields .exit)) ⌝ }
+{
+    if p == 0 {
+        let c = coordinator(fields);
+        coordinator_goes(fields, n, c.crash())
+    } else {
+        let own = participant_at(fields, p - 1);
+        participant_goes(fields, p - 1, own.crash())
+    }
+}
+
+fn restart(fields: &mut [u32; FIELDS], n: u32, p: u32) -> Outcome
+    requires { ⌜ (n ≤ places) × (p ≤ places) ⌝ }
+    ensures { λ o. ⌜ LeadsUnder n (λ r. step r (Step.Restart p)) (now (fields .entry)) o (now (fields .exit)) ⌝ }
+{
+    if p == 0 {
+        let c = coordinator(fields);
+        coordinator_goes(fields, n, c.restart())
+    } else {
+        let own = participant_at(fields, p - 1);
+        participant_goes(fields, p - 1, own.restart())
+    }
+}
+
+// One step that a reader yields under a header with n.
+pub fn step(fields: &mut [u32; FIELDS], n: u32, s: Step) -> Outcome
+    requires { ⌜ (n ≤ places) × (inRange n s ≡ true) × CanCount (now fields) ⌝ }
+    ensures { λ o. ⌜ LeadsUnder n (λ r. step r s) (now (fields .entry)) o (now (fields .exit)) ⌝ }
+{
+    match s {
+        Step::Start => start(fields, n),
+        Step::Deliver(m, p) => deliver(fields, n, m, p - 1),
+        Step::Copy(m, p) => deliver_copy(fields, n, m, p - 1),
+        Step::Lose(m, p) => lose(fields, m, p - 1),
+        Step::Call(p, q) => calls(fields, n, true, p, q - 1),
+        Step::CallLost(p, q) => calls(fields, n, false, p, q - 1),
+        Step::Timeout(p) => timeout(fields, n, p),
+        Step::Crash(p) => crash(fields, n, p),
+        Step::Restart(p) => restart(fields, n, p),
     }
 }

@@ -4,9 +4,11 @@ use kind::Kind;
 use kind::Step;
 use number::NOT_DUE;
 use number::OUT_OF_RANGE;
-use release::step::moves;
-use release::step::report_byte;
+use release::outcome::moves;
+use release::outcome::report_byte;
 use release::step::step;
+use state::fields_of;
+use state::release;
 ghost use mathlib.Core.Path.{_≡_};
 ghost use mathlib.Core.Bool.{true};
 ghost use Rattle.kind.specs.Step.{inRange};
@@ -36,11 +38,10 @@ impl Tail {
         requires { ⌜ (tailInRange self ≡ true) × (inRange (self .n) s ≡ true) ⌝ }
         ensures { λ x. ⌜ x ≡ handed self (step (releaseOf self) s) ⌝ }
     {
-        let report = step(self.release(), s);
-        let outcome = report.outcome;
+        let mut fields = fields_of(self.release());
+        let outcome = step(&mut fields, self.n, s);
         if moves(outcome) {
-            let next = report.next;
-            let state = Tail::of(next);
+            let state = Tail::of(release(&fields));
             Stepped {
                 number: 0,
                 state: state,

@@ -1,35 +1,178 @@
--- `release::step::step` meets its contract, case by case. Assumes nothing.
-use mathlib.Core.Path.{_≡_, refl, sym, ap, _∙_}
-use native.Mathlib.Omega.{arith}
-use Rattle.rules.specs.Report.{moves}
-use Rattle.release.specs.Applied.{changeOf}
-use Rattle.release.proofs.Applied.{applied-step, place-below, caller-most, idle-applied}
 use borrow.Author.Needs.{needs}
 use Rattle.release.proofs.step.step.Statement.{statement}
 use Rattle.release.proofs.step.step.Tie as tie
+use Rattle.release.proofs.step.step.Reads as reads
+use Rattle.release.proofs.step.step.Lts as lts
+use Rattle.release.proofs.step.calls.Reads as calls-reads
+use Rattle.release.proofs.step.crash.Reads as crash-reads
+use Rattle.release.proofs.step.deliver.Reads as deliver-reads
+use Rattle.release.proofs.step.deliver_copy.Reads as deliver-copy-reads
+use Rattle.release.proofs.step.lose.Reads as lose-reads
+use Rattle.release.proofs.step.restart.Reads as restart-reads
+use Rattle.release.proofs.step.start.Reads as start-reads
+use Rattle.release.proofs.step.timeout.Reads as timeout-reads
+
+-- src/step.rt:354:30
+enum-told : tie.Need-enum-told
+enum-told c = search needs
+
+-- src/step.rt:354:24
+start-requires : tie.Need-start-requires
+start-requires c κs = search needs
+
+-- src/step.rt:355:23
+enum-known-s : tie.Need-enum-known-s
+enum-known-s c = search needs
+
+-- src/step.rt:355:54
+sub-deliver : tie.Need-sub-deliver
+sub-deliver c = ?
+
+-- src/step.rt:355:32
+deliver-requires : tie.Need-deliver-requires
+deliver-requires c κs = ?
+
+-- src/step.rt:356:20
+enum-known-s-2 : tie.Need-enum-known-s-2
+enum-known-s-2 c = search needs
+
+-- src/step.rt:356:56
+sub-deliver-copy : tie.Need-sub-deliver-copy
+sub-deliver-copy c = ?
+
+-- src/step.rt:356:29
+deliver-copy-requires : tie.Need-deliver-copy-requires
+deliver-copy-requires c κs = ?
+
+-- src/step.rt:357:20
+enum-known-s-3 : tie.Need-enum-known-s-3
+enum-known-s-3 c = search needs
+
+-- src/step.rt:357:45
+sub-lose : tie.Need-sub-lose
+sub-lose c = ?
+
+-- src/step.rt:357:29
+lose-requires : tie.Need-lose-requires
+lose-requires c κs = search needs
+
+-- src/step.rt:358:20
+enum-known-s-4 : tie.Need-enum-known-s-4
+enum-known-s-4 c = search needs
+
+-- src/step.rt:358:55
+sub-calls : tie.Need-sub-calls
+sub-calls c = ?
+
+-- src/step.rt:358:29
+calls-requires : tie.Need-calls-requires
+calls-requires c κs = ?
+
+-- src/step.rt:359:24
+enum-known-s-5 : tie.Need-enum-known-s-5
+enum-known-s-5 c = search needs
+
+-- src/step.rt:359:60
+sub-calls-2 : tie.Need-sub-calls-2
+sub-calls-2 c = ?
+
+-- src/step.rt:359:33
+calls-requires-2 : tie.Need-calls-requires-2
+calls-requires-2 c κs = ?
+
+-- src/step.rt:360:23
+enum-known-s-6 : tie.Need-enum-known-s-6
+enum-known-s-6 c = search needs
+
+-- src/step.rt:360:29
+timeout-requires : tie.Need-timeout-requires
+timeout-requires c κs = ?
+
+-- src/step.rt:361:21
+enum-known-s-7 : tie.Need-enum-known-s-7
+enum-known-s-7 c = search needs
+
+-- src/step.rt:361:27
+crash-requires : tie.Need-crash-requires
+crash-requires c κs = ?
+
+-- src/step.rt:362:23
+enum-known-s-8 : tie.Need-enum-known-s-8
+enum-known-s-8 c = search needs
+
+-- src/step.rt:362:29
+restart-requires : tie.Need-restart-requires
+restart-requires c κs = ?
+
+-- src/step.rt:349:1
+returns : tie.Need-returns
+returns c = ?
+
+-- src/step.rt:349:1
+returns-2 : tie.Need-returns-2
+returns-2 c = ?
+
+-- src/step.rt:349:1
+returns-3 : tie.Need-returns-3
+returns-3 c = ?
+
+-- src/step.rt:349:1
+returns-4 : tie.Need-returns-4
+returns-4 c = ?
+
+-- src/step.rt:349:1
+returns-5 : tie.Need-returns-5
+returns-5 c = ?
+
+-- src/step.rt:349:1
+returns-6 : tie.Need-returns-6
+returns-6 c = ?
+
+-- src/step.rt:349:1
+returns-7 : tie.Need-returns-7
+returns-7 c = ?
+
+-- src/step.rt:349:1
+returns-8 : tie.Need-returns-8
+returns-8 c = ?
+
+-- src/step.rt:349:1
+returns-9 : tie.Need-returns-9
+returns-9 c = ?
 
 pub step-spec : {M : Type 1} → statement M
 step-spec =
     tie.close
     (tie.spec
-    (λ c κs. search needs)
-    (λ c κs. search needs)
-    (λ c. search needs)
-    (λ c. search needs)
-    (λ c. let start = c .before .before .before .before .before in omega (arith, c .before .before .before .before .participant-place .ensures, place-below (start .args .r .n) (start .args .s) (start .pre .0) (start .pre .1)))
-    (λ c. search needs)
-    (λ c κs. search needs)
-    (λ c κs. search needs)
-    (λ c κs. search needs)
-    (λ c κs. search needs)
-    (λ c κs. let start = c .before .before .before .before .before .before .before .before .before .before in rw (c .before .before .part .ensures) (omega (arith, start .pre .0), start .pre .1))
-    (λ c κs. search needs)
-    (λ c. search needs)
-    (λ c. search needs)
-    (λ c. let start = c .before .before .before .before .before .before .before .before .before .before .before .before .before in omega (arith, c .before .before .before .before .before .before .before .before .before .before .before .before .participant-place .ensures, place-below (start .args .r .n) (start .args .s) (start .pre .0) (start .pre .1)))
-    (λ c κs. search needs)
-    (λ c κs. search needs)
-    (λ c κs. search needs)
-    (λ c κs. let start = c .before .before .before .before .before .before .before .before .before .before .before .before .before .before .before .before in (omega (arith, start .pre .0), omega (arith, c .before .before .before .before .before .before .before .before .before .before .before .before .before .before .before .participant-place .ensures, place-below (start .args .r .n) (start .args .s) (start .pre .0) (start .pre .1)), omega (arith, c .caller .ensures, caller-most (start .args .r .n) (start .args .s) (start .pre .0) (start .pre .1)), start .pre .2 (c .caller .result), refl))
-    (λ c. let start = c .before .before .before .before .before .before .before .before .before .before .before .before .before .before .before .before .before in simp (c .put-back .ensures, c .before .caller .ensures, c .before .before .dropped .ensures, c .before .before .before .taken .ensures, c .before .before .before .before .before .before .led .ensures, c .before .before .before .before .before .before .before .flight .ensures, c .before .before .before .before .before .before .before .before .named .ensures, c .before .before .before .before .before .before .before .before .before .part .ensures, c .before .before .before .before .before .before .before .before .before .before .log-at .ensures, c .before .before .before .before .before .before .before .before .before .before .before .before .before .before .before .log-place .ensures, c .before .before .before .before .before .before .before .before .before .before .before .before .before .before .before .before .participant-place .ensures) (applied-step (start .args .r) (start .args .s) (start .pre .1)))
-    (λ c. let start = c .before .before .before .before .before .before .before .before .before .before .before .before .before in let e : c .before .before .led .result ≡ changeOf (start .args .r) (start .args .s) = simp (c .before .before .led .ensures, c .before .before .before .flight .ensures, c .before .before .before .before .named .ensures, c .before .before .before .before .before .part .ensures, c .before .before .before .before .before .before .log-at .ensures, c .before .before .before .before .before .before .before .before .before .before .before .log-place .ensures, c .before .before .before .before .before .before .before .before .before .before .before .before .participant-place .ensures) in idle-applied (start .args .r) (start .args .s) (start .pre .1) (ap (λ x. moves (x .outcome)) (sym e) ∙ sym (c .before .moves .ensures) ∙ c .if1 .left)))
+    enum-told
+    start-requires
+    enum-known-s
+    sub-deliver
+    deliver-requires
+    enum-known-s-2
+    sub-deliver-copy
+    deliver-copy-requires
+    enum-known-s-3
+    sub-lose
+    lose-requires
+    enum-known-s-4
+    sub-calls
+    calls-requires
+    enum-known-s-5
+    sub-calls-2
+    calls-requires-2
+    enum-known-s-6
+    timeout-requires
+    enum-known-s-7
+    crash-requires
+    enum-known-s-8
+    restart-requires
+    returns
+    returns-2
+    returns-3
+    returns-4
+    returns-5
+    returns-6
+    returns-7
+    returns-8
+    returns-9)

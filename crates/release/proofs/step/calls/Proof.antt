@@ -1,0 +1,37 @@
+use borrow.Author.Needs.{needs}
+use Rattle.release.proofs.step.calls.Statement.{statement}
+use Rattle.release.proofs.step.calls.Tie as tie
+use Rattle.release.proofs.step.calls.Reads as reads
+use Rattle.release.proofs.step.calls.Lts as lts
+use Rattle.release.proofs.step.coordinator_calls.Reads as coordinator-calls-reads
+use Rattle.release.proofs.step.participant_calls.Reads as participant-calls-reads
+
+-- src/step.rt:295:9
+coordinator-calls-requires : tie.Need-coordinator-calls-requires
+coordinator-calls-requires c κs = search needs
+
+-- src/step.rt:297:45
+sub-participant-calls : tie.Need-sub-participant-calls
+sub-participant-calls c = search needs
+
+-- src/step.rt:297:9
+participant-calls-requires : tie.Need-participant-calls-requires
+participant-calls-requires c κs = search needs
+
+-- src/step.rt:290:1
+returns : tie.Need-returns
+returns c = ?
+
+-- src/step.rt:290:1
+returns-2 : tie.Need-returns-2
+returns-2 c = ?
+
+pub calls-spec : {M : Type 1} → statement M
+calls-spec =
+    tie.close
+    (tie.spec
+    coordinator-calls-requires
+    sub-participant-calls
+    participant-calls-requires
+    returns
+    returns-2)

@@ -1,0 +1,45 @@
+use borrow.Author.Needs.{needs}
+use Rattle.release.proofs.step.coordinator_calls.Statement.{statement}
+use Rattle.release.proofs.step.coordinator_calls.Tie as tie
+use Rattle.release.proofs.step.coordinator_calls.Reads as reads
+use Rattle.release.proofs.step.coordinator_calls.Lts as lts
+use Rattle.coordinator.proofs.Coordinator.pending.Reads as pending-reads
+use Rattle.release.proofs.step.coordinator_performed.Reads as coordinator-performed-reads
+use Rattle.state.proofs.coordinator.Reads as coordinator-reads
+use Rattle.state.proofs.log_at.Reads as log-at-reads
+use Rattle.store.proofs.LogPair.perform.Reads as perform-reads
+
+-- src/step.rt:284:9
+coordinator-requires : tie.Need-coordinator-requires
+coordinator-requires c κs = search needs
+
+-- src/step.rt:285:9
+log-at-requires : tie.Need-log-at-requires
+log-at-requires c κs = search needs
+
+-- src/step.rt:286:60
+pending-requires : tie.Need-pending-requires
+pending-requires c κs = search needs
+
+-- src/step.rt:286:48
+perform-requires : tie.Need-perform-requires
+perform-requires c κs = search needs
+
+-- src/step.rt:286:5
+coordinator-performed-requires : tie.Need-coordinator-performed-requires
+coordinator-performed-requires c κs = search needs
+
+-- src/step.rt:280:1
+returns : tie.Need-returns
+returns c = ?
+
+pub coordinator-calls-spec : {M : Type 1} → statement M
+coordinator-calls-spec =
+    tie.close
+    (tie.spec
+    coordinator-requires
+    log-at-requires
+    pending-requires
+    perform-requires
+    coordinator-performed-requires
+    returns)

@@ -1,0 +1,26 @@
+use borrow.Author.Needs.{needs}
+use Rattle.release.proofs.step.deliver_copy.Statement.{statement}
+use Rattle.release.proofs.step.deliver_copy.Tie as tie
+use Rattle.release.proofs.step.deliver_copy.Reads as reads
+use Rattle.release.proofs.step.deliver_copy.Lts as lts
+use Rattle.release.proofs.step.in_flight.Reads as in-flight-reads
+use Rattle.release.proofs.step.receive.Reads as receive-reads
+
+-- src/step.rt:158:8
+in-flight-requires : tie.Need-in-flight-requires
+in-flight-requires c κs = search needs
+
+-- src/step.rt:159:9
+receive-requires : tie.Need-receive-requires
+receive-requires c κs = search needs
+
+-- src/step.rt:154:1
+returns : tie.Need-returns
+returns c = ?
+
+-- src/step.rt:154:1
+returns-2 : tie.Need-returns-2
+returns-2 c = ?
+
+pub deliver-copy-spec : {M : Type 1} → statement M
+deliver-copy-spec = tie.close (tie.spec in-flight-requires receive-requires returns returns-2)

@@ -1,0 +1,45 @@
+use borrow.Author.Needs.{needs}
+use Rattle.release.proofs.step.participant_calls.Statement.{statement}
+use Rattle.release.proofs.step.participant_calls.Tie as tie
+use Rattle.release.proofs.step.participant_calls.Reads as reads
+use Rattle.release.proofs.step.participant_calls.Lts as lts
+use Rattle.participant.proofs.Participant.pending.Reads as pending-reads
+use Rattle.release.proofs.step.participant_performed.Reads as participant-performed-reads
+use Rattle.state.proofs.log_at.Reads as log-at-reads
+use Rattle.state.proofs.participant_at.Reads as participant-at-reads
+use Rattle.store.proofs.LogPair.perform.Reads as perform-reads
+
+-- src/step.rt:228:9
+participant-at-requires : tie.Need-participant-at-requires
+participant-at-requires c κs = search needs
+
+-- src/step.rt:229:9
+log-at-requires : tie.Need-log-at-requires
+log-at-requires c κs = search needs
+
+-- src/step.rt:230:63
+pending-requires : tie.Need-pending-requires
+pending-requires c κs = search needs
+
+-- src/step.rt:230:51
+perform-requires : tie.Need-perform-requires
+perform-requires c κs = search needs
+
+-- src/step.rt:230:5
+participant-performed-requires : tie.Need-participant-performed-requires
+participant-performed-requires c κs = search needs
+
+-- src/step.rt:224:1
+returns : tie.Need-returns
+returns c = ?
+
+pub participant-calls-spec : {M : Type 1} → statement M
+participant-calls-spec =
+    tie.close
+    (tie.spec
+    participant-at-requires
+    log-at-requires
+    pending-requires
+    perform-requires
+    participant-performed-requires
+    returns)

@@ -1,0 +1,48 @@
+use borrow.Author.Needs.{needs}
+use Rattle.release.proofs.step.participant_performed.Statement.{statement}
+use Rattle.release.proofs.step.participant_performed.Tie as tie
+use Rattle.release.proofs.step.participant_performed.Reads as reads
+use Rattle.release.proofs.step.participant_performed.Lts as lts
+use Rattle.participant.proofs.Participant.answer.Reads as answer-reads
+use Rattle.release.proofs.step.participant_answered.Reads as participant-answered-reads
+use Rattle.state.proofs.participant_at.Reads as participant-at-reads
+
+-- src/step.rt:215:31
+enum-told : tie.Need-enum-told
+enum-told c = search needs
+
+-- src/step.rt:216:25
+enum-known-l : tie.Need-enum-known-l
+enum-known-l c = search needs
+
+-- src/step.rt:218:17
+participant-at-requires : tie.Need-participant-at-requires
+participant-at-requires c κs = search needs
+
+-- src/step.rt:219:61
+answer-requires : tie.Need-answer-requires
+answer-requires c κs = search needs
+
+-- src/step.rt:219:13
+participant-answered-requires : tie.Need-participant-answered-requires
+participant-answered-requires c κs = search needs
+
+-- src/step.rt:203:1
+returns : tie.Need-returns
+returns c = ?
+
+-- src/step.rt:203:1
+returns-2 : tie.Need-returns-2
+returns-2 c = ?
+
+pub participant-performed-spec : {M : Type 1} → statement M
+participant-performed-spec =
+    tie.close
+    (tie.spec
+    enum-told
+    enum-known-l
+    participant-at-requires
+    answer-requires
+    participant-answered-requires
+    returns
+    returns-2)

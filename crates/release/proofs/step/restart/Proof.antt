@@ -1,0 +1,66 @@
+use borrow.Author.Needs.{needs}
+use Rattle.release.proofs.step.restart.Statement.{statement}
+use Rattle.release.proofs.step.restart.Tie as tie
+use Rattle.release.proofs.step.restart.Reads as reads
+use Rattle.release.proofs.step.restart.Lts as lts
+use Rattle.coordinator.proofs.Coordinator.restart.Reads as Coordinator-restart-reads
+use Rattle.participant.proofs.Participant.restart.Reads as Participant-restart-reads
+use Rattle.release.proofs.step.coordinator_goes.Reads as coordinator-goes-reads
+use Rattle.release.proofs.step.participant_goes.Reads as participant-goes-reads
+use Rattle.state.proofs.coordinator.Reads as coordinator-reads
+use Rattle.state.proofs.participant_at.Reads as participant-at-reads
+
+-- src/step.rt:340:13
+coordinator-requires : tie.Need-coordinator-requires
+coordinator-requires c κs = search needs
+
+-- src/step.rt:341:37
+restart-requires : tie.Need-restart-requires
+restart-requires c κs = search needs
+
+-- src/step.rt:341:9
+coordinator-goes-requires : tie.Need-coordinator-goes-requires
+coordinator-goes-requires c κs = search needs
+
+-- src/step.rt:343:42
+sub-participant-at : tie.Need-sub-participant-at
+sub-participant-at c = search needs
+
+-- src/step.rt:343:13
+participant-at-requires : tie.Need-participant-at-requires
+participant-at-requires c κs = search needs
+
+-- src/step.rt:344:34
+sub-participant-goes : tie.Need-sub-participant-goes
+sub-participant-goes c = search needs
+
+-- src/step.rt:344:41
+restart-requires-2 : tie.Need-restart-requires-2
+restart-requires-2 c κs = search needs
+
+-- src/step.rt:344:9
+participant-goes-requires : tie.Need-participant-goes-requires
+participant-goes-requires c κs = search needs
+
+-- src/step.rt:335:1
+returns : tie.Need-returns
+returns c = ?
+
+-- src/step.rt:335:1
+returns-2 : tie.Need-returns-2
+returns-2 c = ?
+
+pub restart-spec : {M : Type 1} → statement M
+restart-spec =
+    tie.close
+    (tie.spec
+    coordinator-requires
+    restart-requires
+    coordinator-goes-requires
+    sub-participant-at
+    participant-at-requires
+    sub-participant-goes
+    restart-requires-2
+    participant-goes-requires
+    returns
+    returns-2)

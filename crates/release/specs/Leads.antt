@@ -1,0 +1,25 @@
+-- What code that changes the numbers of a release in place is held to: whatever release the numbers before are of, what is answered and the numbers
+-- after are those that a definition of the rules gives for it. Assumes nothing.
+use mathlib.Core.Path.{_≡_}
+use mathlib.Core.List.{List}
+use Prim.Native.Nat.{ℕ, _+_, _<_}
+use lib.ListN.{getD}
+use Rattle.rules.specs.Run.{countLimit}
+use Rattle.state.specs.Fields.{fields, countsFrom, HasPlaces}
+use Rattle.release.specs.Types.{Outcome, Release, Report}
+
+-- a change of the release, and one that takes its n
+abbrev pub PutsUnder : ℕ → (Release → Release) → List ℕ → List ℕ → Type 0
+PutsUnder n f before after = (r : Release) → HasPlaces r → r .n ≡ n → before ≡ fields r → after ≡ fields (f r)
+
+-- a step of the release, and one that takes its n
+
+abbrev pub Leads : (Release → Report) → List ℕ → Outcome → List ℕ → Type 0
+Leads f before o after = (r : Release) → HasPlaces r → before ≡ fields r → (o ≡ f r .outcome) × (after ≡ fields (f r .next))
+
+abbrev pub LeadsUnder : ℕ → (Release → Report) → List ℕ → Outcome → List ℕ → Type 0
+LeadsUnder n f before o after = (r : Release) → HasPlaces r → r .n ≡ n → before ≡ fields r → (o ≡ f r .outcome) × (after ≡ fields (f r .next))
+
+-- every count has room for one call more
+abbrev pub CanCount : List ℕ → Type 0
+CanCount l = (p : ℕ) → getD l (countsFrom + p) 0 < countLimit
