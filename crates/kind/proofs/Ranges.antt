@@ -1,15 +1,16 @@
--- The test of a body's numbers, kind by kind, is the test of a step's numbers. Assumes nothing.
+-- Whether a body's numbers lie between the least and the greatest of its kind is the test of a step's numbers. Assumes nothing.
 use mathlib.Core.Path.{_≡_, refl, sym, _∙_}
-use mathlib.Core.Bool.{Bool, true, false, _&&_}
-use Prim.Native.Nat.{ℕ}
-use lib.Dec.{eqb, leb}
-use borrow.Author.Tests.{eq-eqb, eqb-true}
+use mathlib.Core.Bool.{Bool, true, false, cond, _&&_}
+use Prim.Native.Nat.{ℕ, zero, suc}
+use native.Mathlib.Omega.{arith}
+use lib.Dec.{eqb, leb, leb·zero, leb·suc-zero, eqb·zero-suc}
+use borrow.Author.Tests.{lt-leb, eq-eqb, ne-eqb, eqb-true}
 use Rattle.number.specs.Numbering.{isNumber}
-use Rattle.number.proofs.Laws.{is-number}
+use Rattle.number.proofs.Laws.{and-false, is-number}
 use Rattle.message.specs.Message.{typeNumber, messageOf}
 use Rattle.kind.specs.Types.{Kind}
-use Rattle.kind.specs.Kind.{kindNumber, kindOf, isKind}
-use Rattle.kind.specs.Step.{stepKind, stepNumber, stepOf, firstInRange, secondInRange, numbersInRange}
+use Rattle.kind.specs.Kind.{kindNumber, kindOf, isKind, isHeader}
+use Rattle.kind.specs.Step.{stepKind, stepNumber, stepOf, numberInRange, leastFirst, greatestFirst, leastSecond, greatestSecond, firstInRange, secondInRange, numbersInRange}
 use Rattle.kind.proofs.Numbers.{kind-numbers}
 
 itself : (k : ℕ) → eqb k k ≡ true
@@ -26,6 +27,58 @@ other-order true false = refl
 other-order false true = refl
 other-order false false = refl
 
+-- the least and the greatest of a number make its range
+
+party-ranged : (n a : ℕ) → numberInRange 0 a n ≡ leb a n
+party-ranged n a = rw (leb·zero a) refl
+
+none-ranged : (a : ℕ) → numberInRange 0 a 0 ≡ eqb 0 a
+none-ranged zero = refl
+none-ranged (suc a) = party-ranged 0 (suc a) ∙ leb·suc-zero a ∙ sym (eqb·zero-suc a)
+
+type-ranged : (a : ℕ) → numberInRange 1 a 5 ≡ isNumber typeNumber messageOf a
+type-ranged zero = refl
+type-ranged (suc zero) = refl
+type-ranged (suc (suc zero)) = refl
+type-ranged (suc (suc (suc zero))) = refl
+type-ranged (suc (suc (suc (suc zero)))) = refl
+type-ranged (suc (suc (suc (suc (suc zero))))) = refl
+type-ranged (suc (suc (suc (suc (suc (suc a)))))) =
+    let k : ℕ = suc (suc (suc (suc (suc (suc a))))) in
+    simp (
+      and-false (leb 1 k) (leb k 5) (lt-leb k 5 (omega arith)),
+      ne-eqb k 2 (λ e. omega arith),
+      ne-eqb k 3 (λ e. omega arith),
+      ne-eqb k 4 (λ e. omega arith),
+      ne-eqb k 5 (λ e. omega arith),
+      ne-eqb 1 k (λ e. omega arith),
+    )
+
+pub first-ranged : (n : ℕ) (k : Kind) (a : ℕ) → cond (isHeader k) false (numberInRange (leastFirst k) a (greatestFirst n k)) ≡ firstInRange n k a
+first-ranged n Kind.Header a = refl
+first-ranged n Kind.Start a = none-ranged a
+first-ranged n Kind.Deliver a = type-ranged a
+first-ranged n Kind.Copy a = type-ranged a
+first-ranged n Kind.Lose a = type-ranged a
+first-ranged n Kind.Call a = party-ranged n a
+first-ranged n Kind.CallLost a = party-ranged n a
+first-ranged n Kind.Timeout a = party-ranged n a
+first-ranged n Kind.Crash a = party-ranged n a
+first-ranged n Kind.Restart a = party-ranged n a
+
+pub second-ranged : (n : ℕ) (k : Kind) (b : ℕ) → numberInRange (leastSecond k) b (greatestSecond n k) ≡ secondInRange n k b
+second-ranged n Kind.Header b = none-ranged b
+second-ranged n Kind.Start b = none-ranged b
+second-ranged n Kind.Deliver b = refl
+second-ranged n Kind.Copy b = refl
+second-ranged n Kind.Lose b = refl
+second-ranged n Kind.Call b = refl
+second-ranged n Kind.CallLost b = refl
+second-ranged n Kind.Timeout b = none-ranged b
+second-ranged n Kind.Crash b = none-ranged b
+second-ranged n Kind.Restart b = none-ranged b
+
+-- the test of both numbers is that of a step's
 pub kind-ranged : (n : ℕ) (k : Kind) (a b : ℕ) → firstInRange n k a && secondInRange n k b ≡ numbersInRange n (kindNumber k) a b
 kind-ranged n Kind.Header a b = refl
 kind-ranged n Kind.Start a b = sym (and-all (eqb 0 a && eqb 0 b))

@@ -115,6 +115,22 @@ firstInRange n k a = cond (namesMessage k) (isNumber typeNumber messageOf a) (co
 abbrev pub secondInRange : ℕ → Kind → ℕ → Bool
 secondInRange n k b = cond (namesPlace k) (numberInRange 1 b n) (eqb 0 b)
 
+-- the least and the greatest number of each range: types go from 1 to 5, participants and logs from 1 to n, parties from 0 to n
+
+abbrev pub leastFirst : Kind → ℕ
+leastFirst k = cond (namesMessage k) 1 0
+
+abbrev pub greatestFirst : ℕ → Kind → ℕ
+greatestFirst n k = cond (namesMessage k) 5 (cond (namesParty k) n 0)
+
+abbrev pub leastSecond : Kind → ℕ
+leastSecond k = cond (namesPlace k) 1 0
+
+abbrev pub greatestSecond : ℕ → Kind → ℕ
+greatestSecond n k = cond (namesPlace k) n 0
+
+-- whether a step has numbers in range
+
 abbrev pub inRange : ℕ → Step → Bool
 inRange n Step.Start = true
 inRange n (Step.Deliver m p) = numberInRange 1 p n

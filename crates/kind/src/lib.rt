@@ -2,7 +2,7 @@
 use message::Message;
 ghost use mathlib.Core.Path.{_≡_};
 ghost use Rattle.kind.specs.Kind.{kindNumber, kindOf, bodyLength, isHeader};
-ghost use Rattle.kind.specs.Step.{ofKind, numberInRange, namesMessage, namesParty, namesPlace, firstInRange, secondInRange, numbersInRange};
+ghost use Rattle.kind.specs.Step.{ofKind, numberInRange, namesMessage, namesParty, namesPlace, leastFirst, greatestFirst, leastSecond, greatestSecond, firstInRange, secondInRange, numbersInRange};
 
 // The kind of a record.
 pub enum Kind {
@@ -75,21 +75,18 @@ impl Kind {
         }
     }
 
-    // The length of the body of a kind.
+    // The length of the body of a kind. 2 is the start; the other kinds up to 7 have two numbers. Tests of the number stand in place
+    // of a case for each kind: kinds come in any order, so a jump by the kind would often be guessed wrong, and these tests need none.
     pub fn body(k: Kind) -> usize
         ensures { λ m. ⌜ m ≡ bodyLength k ⌝ }
     {
-        match k {
-            Kind::Header => Kind::TWO_NUMBERS,
-            Kind::Start => Kind::NO_NUMBER,
-            Kind::Deliver => Kind::TWO_NUMBERS,
-            Kind::Copy => Kind::TWO_NUMBERS,
-            Kind::Lose => Kind::TWO_NUMBERS,
-            Kind::Call => Kind::TWO_NUMBERS,
-            Kind::CallLost => Kind::TWO_NUMBERS,
-            Kind::Timeout => Kind::ONE_NUMBER,
-            Kind::Crash => Kind::ONE_NUMBER,
-            Kind::Restart => Kind::ONE_NUMBER,
+        let number = k.number();
+        if number == 2 {
+            Kind::NO_NUMBER
+        } else if number <= 7 {
+            Kind::TWO_NUMBERS
+        } else {
+            Kind::ONE_NUMBER
         }
     }
 
@@ -119,71 +116,67 @@ pub fn between(low: u32, k: u32, high: u32) -> bool
 }
 
 impl Kind {
-    // Whether the first number of its body is a message's type, or a party.
+    // Whether the first number of its body is a message's type, or a party. Deliver, copy and lose are 3 to 5, both calls 6 and 7.
     fn names_message(self) -> bool
         ensures { λ b. ⌜ b ≡ namesMessage self ⌝ }
     {
-        match self {
-            Kind::Header => false,
-            Kind::Start => false,
-            Kind::Deliver => true,
-            Kind::Copy => true,
-            Kind::Lose => true,
-            Kind::Call => false,
-            Kind::CallLost => false,
-            Kind::Timeout => false,
-            Kind::Crash => false,
-            Kind::Restart => false,
-        }
+        between(3, self.number(), 5)
     }
 
     fn names_party(self) -> bool
         ensures { λ b. ⌜ b ≡ namesParty self ⌝ }
     {
-        match self {
-            Kind::Header => false,
-            Kind::Start => false,
-            Kind::Deliver => false,
-            Kind::Copy => false,
-            Kind::Lose => false,
-            Kind::Call => true,
-            Kind::CallLost => true,
-            Kind::Timeout => true,
-            Kind::Crash => true,
-            Kind::Restart => true,
-        }
+        6 <= self.number()
     }
 
     // Whether the second one is a participant or a log.
     fn names_place(self) -> bool
         ensures { λ b. ⌜ b ≡ namesPlace self ⌝ }
     {
-        match self {
-            Kind::Header => false,
-            Kind::Start => false,
-            Kind::Deliver => true,
-            Kind::Copy => true,
-            Kind::Lose => true,
-            Kind::Call => true,
-            Kind::CallLost => true,
-            Kind::Timeout => false,
-            Kind::Crash => false,
-            Kind::Restart => false,
+        between(3, self.number(), 7)
+    }
+
+    // The least and the greatest first number of a step of this kind under a header with n. 5 is the last message type. Every
+    // number is tested between the two, so that no jump depends on the kind of a step.
+    fn least_first(self) -> u32
+        ensures { λ x. ⌜ x ≡ leastFirst self ⌝ }
+    {
+        if self.names_message() { 1 } else { 0 }
+    }
+
+    fn greatest_first(self, n: u32) -> u32
+        ensures { λ x. ⌜ x ≡ greatestFirst n self ⌝ }
+    {
+        if self.names_message() {
+            5
+        } else if self.names_party() {
+            n
+        } else {
+            0
         }
+    }
+
+    // And those of the second number.
+    fn least_second(self) -> u32
+        ensures { λ x. ⌜ x ≡ leastSecond self ⌝ }
+    {
+        if self.names_place() { 1 } else { 0 }
+    }
+
+    fn greatest_second(self, n: u32) -> u32
+        ensures { λ x. ⌜ x ≡ greatestSecond n self ⌝ }
+    {
+        if self.names_place() { n } else { 0 }
     }
 
     // Whether a step of this kind under a header with n has this first number. A header is no step.
     fn first_in_range(self, n: u32, a: u32) -> bool
         ensures { λ x. ⌜ x ≡ firstInRange n self a ⌝ }
     {
-        if self.names_message() {
-            Message::of(a).number() == a
-        } else if self.names_party() {
-            a <= n
-        } else if self.is_header() {
+        if self.is_header() {
             false
         } else {
-            0 == a
+            between(self.least_first(), a, self.greatest_first(n))
         }
     }
 
@@ -191,11 +184,7 @@ impl Kind {
     fn second_in_range(self, n: u32, b: u32) -> bool
         ensures { λ x. ⌜ x ≡ secondInRange n self b ⌝ }
     {
-        if self.names_place() {
-            between(1, b, n)
-        } else {
-            0 == b
-        }
+        between(self.least_second(), b, self.greatest_second(n))
     }
 
     // Whether a step of this kind that a reader yields under a header with n has these numbers.

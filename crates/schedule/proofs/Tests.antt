@@ -2,13 +2,12 @@
 use mathlib.Core.Path.{_≡_, refl, sym, ap}
 use mathlib.Core.Bool.{Bool, true, false, cond, true≢false}
 use mathlib.Core.List.{List}
-use Prim.Native.Nat.{ℕ, _<_}
+use Prim.Native.Nat.{ℕ}
 use lib.Dec.{eqb, leb}
 use lib.ListN.{length, getD}
-use borrow.Author.Tests.{leb-false}
 use Rattle.number.specs.Refusal.{headerMisplaced}
 use Rattle.kind.specs.Kind.{kindOf, isKind, bodyLength}
-use Rattle.schedule.specs.Types.{Kind, Before, Found}
+use Rattle.schedule.specs.Types.{Kind, Before, Read, Found}
 use Rattle.schedule.specs.Reader.{refused, isPlaced, bodyAnswer, recordAt, readerAnswers}
 use Rattle.schedule.specs.Found.{kindAt}
 
@@ -24,10 +23,9 @@ abbrev kindIn : Kind → Found → Kind
 kindIn other (Found.Refused k) = other
 kindIn other (Found.Known k) = k
 
--- what stands before the fourth test
-pub record Whole (bytes : List ℕ) (before : Before) (k : Kind) : Type 0 where
-  pub room : bodyLength k < length bytes
-  pub answer : readerAnswers bytes before ≡ cond (isPlaced before k) (bodyAnswer before (recordAt bytes k)) (refused headerMisplaced)
+-- what is left of the answer: the fourth test and the fifth
+abbrev pub placedAnswer : List ℕ → Before → Kind → Read
+placedAnswer bytes before k = cond (isPlaced before k) (bodyAnswer before (recordAt bytes k)) (refused headerMisplaced)
 
 module _ (bytes : List ℕ) (before : Before) where
   pub found-refused : (n : ℕ) → kindAt bytes ≡ Found.Refused n → refused n ≡ readerAnswers bytes before
@@ -39,17 +37,14 @@ module _ (bytes : List ℕ) (before : Before) where
       go false p true q true r = let z = rw (p, q, r) at e in rw (p, q, r) (ap refused (sym (ap number z)))
       go false p true q false r = let z = rw (p, q, r) at e in let y : true ≡ false = ap isKnown z in cc
 
-  pub found-known : (x : Kind) → kindAt bytes ≡ Found.Known x → Whole bytes before x
+  pub found-known : (x : Kind) → kindAt bytes ≡ Found.Known x → readerAnswers bytes before ≡ placedAnswer bytes before x
   found-known x e = go (eqb (length bytes) 0) refl (isKind (getD bytes 0 0)) refl (leb (length bytes) (bodyLength (kindOf (getD bytes 0 0)))) refl
     where
-      go : (a : Bool) → eqb (length bytes) 0 ≡ a → (b : Bool) → isKind (getD bytes 0 0) ≡ b → (c : Bool) → leb (length bytes) (bodyLength (kindOf (getD bytes 0 0))) ≡ c → Whole bytes before x
+      go : (a : Bool) → eqb (length bytes) 0 ≡ a → (b : Bool) → isKind (getD bytes 0 0) ≡ b → (c : Bool) → leb (length bytes) (bodyLength (kindOf (getD bytes 0 0))) ≡ c → readerAnswers bytes before ≡ placedAnswer bytes before x
       go true p b q c r = let z = rw p at e in let y : false ≡ true = ap isKnown z in absurd (true≢false (sym y))
       go false p false q c r = let z = rw (p, q) at e in let y : false ≡ true = ap isKnown z in absurd (true≢false (sym y))
       go false p true q true r = let z = rw (p, q, r) at e in let y : false ≡ true = ap isKnown z in absurd (true≢false (sym y))
       go false p true q false r =
           let z = rw (p, q, r) at e in
           let w : kindOf (getD bytes 0 0) ≡ x = ap (kindIn x) z in
-          record {
-            room = rw (← w) (leb-false (length bytes) (bodyLength (kindOf (getD bytes 0 0))) r);
-            answer = rw (p, q, r, w) refl;
-          }
+          rw (p, q, r, w) refl

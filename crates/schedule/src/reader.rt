@@ -9,7 +9,7 @@ use number::HEADER_MISPLACED;
 use number::OUT_OF_RANGE;
 use number::UNKNOWN_KIND;
 ghost use mathlib.Core.Path.{_≡_};
-ghost use Prim.Native.Nat.{_<_};
+ghost use lib.Dec.{leb};
 ghost use lib.ListN.{length, getD};
 ghost use Rattle.kind.specs.Kind.{bodyLength};
 ghost use Rattle.schedule.specs.Reader.{bodyNumber, recordAt, inRangeAfter, ranged, readerAnswers, stepAt, lengthAt};
@@ -34,6 +34,18 @@ enum Found {
     Refused(u32),
 }
 
+// Whether the bytes end before the body of the kind does. No body has more than two numbers: where more bytes are there, no jump
+// depends on the kind.
+fn cut_short(bytes: &[u8], kind: Kind) -> bool
+    ensures { λ b. ⌜ b ≡ leb (length (now (bytes .entry))) (bodyLength kind) ⌝ }
+{
+    if Kind::TWO_NUMBERS < bytes.len() {
+        false
+    } else {
+        bytes.len() <= Kind::body(kind)
+    }
+}
+
 // The kind of the record that the bytes begin with: 1, 2, 3.
 fn kind_at(bytes: &[u8]) -> Found
     ensures { λ x. ⌜ x ≡ kindAt (now (bytes .entry)) ⌝ }
@@ -44,7 +56,7 @@ fn kind_at(bytes: &[u8]) -> Found
     let number = bytes[0] as u32;
     let kind = Kind::of(number);
     if kind.number() == number {
-        if bytes.len() <= Kind::body(kind) {
+        if cut_short(bytes, kind) {
             Found::Refused(BODY_CUT_SHORT)
         } else {
             Found::Known(kind)
@@ -54,21 +66,16 @@ fn kind_at(bytes: &[u8]) -> Found
     }
 }
 
-// Number i of the body, 0 where the kind's body has none.
+// Number i of the body, 0 where the kind's body has none. The byte is read first: the test then only picks a number, with no jump.
 fn body_number(bytes: &[u8], kind: Kind, i: usize) -> u32
-    requires { ⌜ bodyLength kind < length (now bytes) ⌝ }
     ensures { λ k. ⌜ k ≡ bodyNumber (now (bytes .entry)) kind i ⌝ }
 {
-    if i <= Kind::body(kind) {
-        bytes[i] as u32
-    } else {
-        0
-    }
+    let b = byte_at(bytes, i);
+    if i <= Kind::body(kind) { b } else { 0 }
 }
 
 // The record of a kind.
 fn record_at(bytes: &[u8], kind: Kind) -> Record
-    requires { ⌜ bodyLength kind < length (now bytes) ⌝ }
     ensures { λ r. ⌜ r ≡ recordAt (now (bytes .entry)) kind ⌝ }
 {
     Record {

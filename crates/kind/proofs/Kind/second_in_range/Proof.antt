@@ -1,5 +1,5 @@
--- `kind::Kind::second_in_range` meets its contract, case by case. Assumes nothing.
-use mathlib.Core.Path.{sym, _∙_}
+-- `kind::Kind::second_in_range` meets its contract. Assumes nothing.
+use Rattle.kind.proofs.Ranges.{second-ranged}
 use borrow.Author.Needs.{needs}
 use Rattle.kind.proofs.Kind.second_in_range.Statement.{statement}
 use Rattle.kind.proofs.Kind.second_in_range.Tie as tie
@@ -10,5 +10,5 @@ second-in-range-spec =
     (tie.spec
     (λ c κs. search needs)
     (λ c κs. search needs)
-    (λ c. simp (c .between .ensures, sym (c .before .before .names-place .ensures) ∙ c .before .if1 .taken))
-    (λ c. simp (sym (c .before .names-place .ensures) ∙ c .if1 .left)))
+    (λ c κs. search needs)
+    (λ c. let args = c .before .before .before .args in simp (c .between .ensures, c .before .greatest-second .ensures, c .before .before .least-second .ensures, second-ranged (args .n) (args .self) (args .b))))

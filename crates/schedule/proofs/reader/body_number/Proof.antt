@@ -1,5 +1,4 @@
 -- `schedule::reader::body_number` meets its contract, case by case. Assumes nothing.
-use native.Mathlib.Omega.{arith}
 use borrow.Author.Tests.{le-leb, lt-leb}
 use borrow.Author.Needs.{needs}
 use Rattle.schedule.proofs.reader.body_number.Statement.{statement}
@@ -10,7 +9,6 @@ body-number-spec =
     tie.close
     (tie.spec
     (λ c κs. search needs)
-    (λ c. search needs)
-    (λ c. omega (arith, c .shared-slice-known2 .given (c .before .before .before .before .args .i)))
-    (λ c. simp (le-leb _ _ (c .before .if1 .taken), ← c .before .before .body .ensures))
+    (λ c κs. search needs)
+    (λ c. simp (c .before .before .byte-at .ensures, le-leb _ _ (c .if1 .taken), ← c .before .body .ensures))
     (λ c. simp (lt-leb _ _ (c .if1 .left), ← c .before .body .ensures)))

@@ -2,7 +2,6 @@
 use mathlib.Core.Path.{sym, _∙_}
 use Rattle.schedule.specs.Types.{Before}
 use Rattle.schedule.proofs.Tests.{found-refused, found-known}
-use mathlib.Core.Path.{sym, _∙_}
 use borrow.Author.Needs.{needs}
 use Rattle.schedule.proofs.reader.read_step.Statement.{statement}
 use Rattle.schedule.proofs.reader.read_step.Tie as tie
@@ -15,9 +14,9 @@ read-step-spec =
     (λ c. search needs)
     (λ c. search needs)
     (λ c κs. search needs)
-    (λ c κs. found-known (c .before .before .before .before .before .before .before .args .bytes .now) (Before.Header (c .before .before .before .before .before .before .before .args .h)) _ (sym (c .before .before .before .before .before .kind-at .ensures) ∙ c .before .before .before .kind .given .1) .room)
+    (λ c κs. search needs)
     (λ c κs. search needs)
     (λ c κs. search needs)
     (λ c. found-refused (c .before .before .before .before .before .args .bytes .now) (Before.Header (c .before .before .before .before .before .args .h)) _ (sym (c .before .before .before .kind-at .ensures) ∙ c .before .k .given .1))
-    (λ c. sym (found-known (c .before .before .before .before .before .before .before .args .bytes .now) (Before.Header (c .before .before .before .before .before .before .before .args .h)) _ (sym (c .before .before .before .before .before .kind-at .ensures) ∙ c .before .before .before .kind .given .1) .answer ∙ simp (sym (c .before .is-header .ensures) ∙ c .if1 .taken)))
-    (λ c. c .ranged .ensures ∙ (simp (c .before .in-range-under .ensures, c .before .before .record-at .ensures, sym (c .before .before .before .before .is-header .ensures) ∙ c .before .before .before .if1 .left)) ∙ sym (found-known (c .before .before .before .before .before .before .before .before .before .before .args .bytes .now) (Before.Header (c .before .before .before .before .before .before .before .before .before .before .args .h)) _ (sym (c .before .before .before .before .before .before .before .before .kind-at .ensures) ∙ c .before .before .before .before .before .before .kind .given .1) .answer)))
+    (λ c. sym (found-known (c .before .before .before .before .before .before .before .args .bytes .now) (Before.Header (c .before .before .before .before .before .before .before .args .h)) _ (sym (c .before .before .before .before .before .kind-at .ensures) ∙ c .before .before .before .kind .given .1) ∙ simp (sym (c .before .is-header .ensures) ∙ c .if1 .taken)))
+    (λ c. c .ranged .ensures ∙ (simp (c .before .in-range-under .ensures, c .before .before .record-at .ensures, sym (c .before .before .before .before .is-header .ensures) ∙ c .before .before .before .if1 .left)) ∙ sym (found-known (c .before .before .before .before .before .before .before .before .before .before .args .bytes .now) (Before.Header (c .before .before .before .before .before .before .before .before .before .before .args .h)) _ (sym (c .before .before .before .before .before .before .before .before .kind-at .ensures) ∙ c .before .before .before .before .before .before .kind .given .1))))
