@@ -1,3 +1,7 @@
+use Prim.Native.Nat.{suc}
+use native.Mathlib.Omega.{arith}
+use Rattle.rules.specs.Step.{calls}
+use Rattle.release.proofs.Leading.{numbered}
 use borrow.Author.Needs.{needs}
 use Rattle.release.proofs.step.calls.Statement.{statement}
 use Rattle.release.proofs.step.calls.Tie as tie
@@ -20,11 +24,11 @@ participant-calls-requires c κs = search needs
 
 -- src/step.rt:290:1
 returns : tie.Need-returns
-returns c = ?
+returns c = rw (c .before .before .if1 .taken) (c .coordinator-calls .ensures)
 
 -- src/step.rt:290:1
 returns-2 : tie.Need-returns-2
-returns-2 c = ?
+returns-2 c = numbered _ (λ p. calls (c .before .before .before .args .heard) p (suc (c .before .before .before .args .j))) _ _ _ _ (omega arith) (c .participant-calls .ensures)
 
 pub calls-spec : {M : Type 1} → statement M
 calls-spec =

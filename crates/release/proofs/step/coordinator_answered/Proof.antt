@@ -1,3 +1,7 @@
+use mathlib.Core.Path.{_≡_, refl, sym, _∙_}
+use native.Mathlib.Omega.{arith}
+use Rattle.rules.specs.Step.{moved}
+use Rattle.release.proofs.Leading.{call-made, after-call-under}
 use borrow.Author.Needs.{needs}
 use Rattle.release.proofs.step.coordinator_answered.Statement.{statement}
 use Rattle.release.proofs.step.coordinator_answered.Tie as tie
@@ -17,7 +21,7 @@ enum-known-t c = search needs
 
 -- src/step.rt:249:13
 count-call-requires : tie.Need-count-call-requires
-count-call-requires c κs = ?
+count-call-requires c κs = (omega arith, c .before .before .before .before .before .pre .2 0)
 
 -- src/step.rt:250:13
 put-log-requires : tie.Need-put-log-requires
@@ -29,15 +33,15 @@ coordinator-to-requires c κs = search needs
 
 -- src/step.rt:234:1
 returns : tie.Need-returns
-returns c = ?
+returns c = rw (c .enum-told .given .1) (λ r h q e. (refl, e))
 
 -- src/step.rt:234:1
 returns-2 : tie.Need-returns-2
-returns-2 c = ?
+returns-2 c = rw (c .before .before .before .before .before .before .before .before .before .t .given .1, c .before .before .if1 .taken) (after-call-under _ _ _ _ _ _ _ _ _ (rw (c .before .before .before .put-log .ensures, c .before .before .before .before .before .count-call .ensures) (call-made 0 _ _ _ (omega arith) (c .before .before .before .before .before .before .before .before .before .before .before .pre .1))) (c .coordinator-to .ensures))
 
 -- src/step.rt:234:1
 returns-3 : tie.Need-returns-3
-returns-3 c = ?
+returns-3 c = rw (c .before .before .before .before .before .before .before .t .given .1, c .if1 .left) (after-call-under _ moved _ _ _ _ _ _ _ (rw (c .before .put-log .ensures, c .before .before .before .count-call .ensures) (call-made 0 _ _ _ (omega arith) (c .before .before .before .before .before .before .before .before .before .pre .1))) (λ r h q e. (refl, e)))
 
 pub coordinator-answered-spec : {M : Type 1} → statement M
 coordinator-answered-spec =

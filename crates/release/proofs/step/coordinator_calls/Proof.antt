@@ -1,3 +1,8 @@
+use lib.Dec.{lit<}
+use Rattle.store.specs.Log.{perform}
+use Rattle.coordinator.specs.Coordinator
+use Rattle.rules.specs.Step.{coordinatorPerformed, coordinatorCalls}
+use Rattle.release.proofs.Leading.{reads}
 use borrow.Author.Needs.{needs}
 use Rattle.release.proofs.step.coordinator_calls.Statement.{statement}
 use Rattle.release.proofs.step.coordinator_calls.Tie as tie
@@ -31,7 +36,8 @@ coordinator-performed-requires c κs = search needs
 
 -- src/step.rt:280:1
 returns : tie.Need-returns
-returns c = ?
+unfolding coordinatorCalls
+returns c = reads (λ n v d p x. coordinatorPerformed (c .before .before .before .before .before .before .before .before .args .heard) (c .before .before .before .before .before .before .before .before .args .j) (perform (Coordinator.pending d (c .before .before .before .before .before .before .before .before .args .j)) x)) _ 0 (c .before .before .before .before .before .before .before .before .args .j) _ _ _ (lit< tt) (c .before .before .before .before .before .before .before .before .pre .1) (rw (c .before .perform .ensures, c .before .before .pending .ensures, c .before .before .before .before .log-at .ensures, c .before .before .before .before .before .before .coordinator .ensures) at (c .coordinator-performed .ensures))
 
 pub coordinator-calls-spec : {M : Type 1} → statement M
 coordinator-calls-spec =

@@ -1,3 +1,4 @@
+use mathlib.Core.Path.{_≡_, refl, sym}
 use borrow.Author.Needs.{needs}
 use Rattle.release.proofs.step.coordinator_goes.Statement.{statement}
 use Rattle.release.proofs.step.coordinator_goes.Tie as tie
@@ -19,11 +20,11 @@ coordinator-to-requires c κs = search needs
 
 -- src/step.rt:110:1
 returns : tie.Need-returns
-returns c = ?
+returns c = rw (c .enum-told .given .1) (λ r h q e. (refl, e))
 
 -- src/step.rt:110:1
 returns-2 : tie.Need-returns-2
-returns-2 c = ?
+returns-2 c = rw (c .before .before .before .t .given .1) (c .coordinator-to .ensures)
 
 pub coordinator-goes-spec : {M : Type 1} → statement M
 coordinator-goes-spec =

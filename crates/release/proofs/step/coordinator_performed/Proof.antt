@@ -1,3 +1,8 @@
+use mathlib.Core.Path.{_≡_, refl, sym, _∙_}
+use lib.Dec.{lit<}
+use Rattle.coordinator.specs.Coordinator
+use Rattle.rules.specs.Step.{coordinatorAnswered}
+use Rattle.release.proofs.Leading.{reads}
 use borrow.Author.Needs.{needs}
 use Rattle.release.proofs.step.coordinator_performed.Statement.{statement}
 use Rattle.release.proofs.step.coordinator_performed.Tie as tie
@@ -29,11 +34,11 @@ coordinator-answered-requires c κs = search needs
 
 -- src/step.rt:260:1
 returns : tie.Need-returns
-returns c = ?
+returns c = rw (c .enum-told .given .1) (λ r h q e. (refl, e))
 
 -- src/step.rt:260:1
 returns-2 : tie.Need-returns-2
-returns-2 c = ?
+returns-2 c = rw (c .before .before .before .before .before .before .l .given .1) (reads (λ n v d p x. coordinatorAnswered (c .before .before .before .before .before .before .before .before .args .heard) (c .before .before .before .before .before .before .before .before .args .j) (c .before .before .before .before .before .before .l .given .0 .0) (Coordinator.onAnswer n d (c .before .before .before .before .before .before .before .before .args .j) (c .before .before .before .before .before .before .l .given .0 .0 .answer))) _ 0 0 _ _ _ (lit< tt) (lit< tt) (rw (c .before .answer .ensures, c .before .before .before .coordinator .ensures) at (c .coordinator-answered .ensures)))
 
 pub coordinator-performed-spec : {M : Type 1} → statement M
 coordinator-performed-spec =

@@ -1,3 +1,4 @@
+use Rattle.release.proofs.Leading.{coordinator-goes}
 use borrow.Author.Needs.{needs}
 use Rattle.release.proofs.step.coordinator_to.Statement.{statement}
 use Rattle.release.proofs.step.coordinator_to.Tie as tie
@@ -35,7 +36,7 @@ learnt-requires c κs = search needs
 
 -- src/step.rt:100:1
 returns : tie.Need-returns
-returns c = ?
+returns c = rw (c .learnt .ensures, c .before .coordinator-known2 .ensures, c .before .before .coordinator-known .ensures, c .before .before .before .before .before .before .before .coordinator .ensures, c .before .before .before .put-coordinator .ensures) (coordinator-goes _ _ _ _ _ (c .before .before .before .before .before .send-all .ensures))
 
 pub coordinator-to-spec : {M : Type 1} → statement M
 coordinator-to-spec =

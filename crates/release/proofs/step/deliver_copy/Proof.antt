@@ -1,3 +1,5 @@
+use Rattle.rules.specs.Step.{receive}
+use Rattle.release.proofs.Leading.{in-flight-leads, no-flight-leads}
 use borrow.Author.Needs.{needs}
 use Rattle.release.proofs.step.deliver_copy.Statement.{statement}
 use Rattle.release.proofs.step.deliver_copy.Tie as tie
@@ -16,11 +18,11 @@ receive-requires c κs = search needs
 
 -- src/step.rt:154:1
 returns : tie.Need-returns
-returns c = ?
+returns c = in-flight-leads _ _ (c .before .before .before .before .before .args .m) (c .before .before .before .before .before .args .i) _ _ _ _ (c .before .before .if1 .taken) (c .before .before .before .in-flight .ensures) (c .receive .ensures)
 
 -- src/step.rt:154:1
 returns-2 : tie.Need-returns-2
-returns-2 c = ?
+returns-2 c = no-flight-leads _ (receive (c .before .before .before .args .m) (c .before .before .before .args .i)) (c .before .before .before .args .m) (c .before .before .before .args .i) _ _ (c .if1 .left) (c .before .in-flight .ensures)
 
 pub deliver-copy-spec : {M : Type 1} → statement M
 deliver-copy-spec = tie.close (tie.spec in-flight-requires receive-requires returns returns-2)

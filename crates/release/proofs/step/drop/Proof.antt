@@ -1,3 +1,5 @@
+use Rattle.mask.specs.Mask.{remove}
+use Rattle.release.proofs.Leading.{masks}
 use borrow.Author.Needs.{needs}
 use Rattle.release.proofs.step.drop.Statement.{statement}
 use Rattle.release.proofs.step.drop.Tie as tie
@@ -21,7 +23,7 @@ put-mask-requires c κs = search needs
 
 -- src/step.rt:71:1
 returns : tie.Need-returns
-returns c = ?
+returns c = rw (c .put-mask .ensures, c .before .remove .ensures, c .before .before .before .mask-of .ensures) (masks (remove (c .before .before .before .before .before .args .i)) _ _)
 
 pub drop-spec : {M : Type 1} → statement M
 drop-spec = tie.close (tie.spec mask-of-requires remove-requires put-mask-requires returns)

@@ -1,3 +1,4 @@
+
 use borrow.Author.Needs.{needs}
 use Rattle.release.proofs.step.in_flight.Statement.{statement}
 use Rattle.release.proofs.step.in_flight.Tie as tie
@@ -16,7 +17,7 @@ has-requires c κs = search needs
 
 -- src/step.rt:64:1
 returns : tie.Need-returns
-returns c = ?
+returns c = simp (c .has .ensures, c .before .mask-of .ensures)
 
 pub in-flight-spec : {M : Type 1} → statement M
 in-flight-spec = tie.close (tie.spec mask-of-requires has-requires returns)

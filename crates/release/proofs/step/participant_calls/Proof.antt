@@ -1,3 +1,7 @@
+use Rattle.store.specs.Log.{perform}
+use Rattle.participant.specs.Participant
+use Rattle.rules.specs.Step.{participantPerformed, participantCalls}
+use Rattle.release.proofs.Leading.{reads}
 use borrow.Author.Needs.{needs}
 use Rattle.release.proofs.step.participant_calls.Statement.{statement}
 use Rattle.release.proofs.step.participant_calls.Tie as tie
@@ -31,7 +35,8 @@ participant-performed-requires c κs = search needs
 
 -- src/step.rt:224:1
 returns : tie.Need-returns
-returns c = ?
+unfolding participantCalls
+returns c = reads (λ n v d p x. participantPerformed (c .before .before .before .before .before .before .before .before .args .heard) (c .before .before .before .before .before .before .before .before .args .i) (c .before .before .before .before .before .before .before .before .args .j) (perform (Participant.pending (c .before .before .before .before .before .before .before .before .args .i) p (c .before .before .before .before .before .before .before .before .args .j)) x)) _ (c .before .before .before .before .before .before .before .before .args .i) (c .before .before .before .before .before .before .before .before .args .j) _ _ _ (c .before .before .before .before .before .before .before .before .pre .1) (c .before .before .before .before .before .before .before .before .pre .2) (rw (c .before .perform .ensures, c .before .before .pending .ensures, c .before .before .before .before .log-at .ensures, c .before .before .before .before .before .before .participant-at .ensures) at (c .participant-performed .ensures))
 
 pub participant-calls-spec : {M : Type 1} → statement M
 participant-calls-spec =

@@ -1,3 +1,8 @@
+use mathlib.Core.Path.{_≡_, refl, sym, _∙_}
+use lib.Dec.{lit<}
+use Rattle.participant.specs.Participant
+use Rattle.rules.specs.Step.{participantAnswered}
+use Rattle.release.proofs.Leading.{reads-plain}
 use borrow.Author.Needs.{needs}
 use Rattle.release.proofs.step.participant_performed.Statement.{statement}
 use Rattle.release.proofs.step.participant_performed.Tie as tie
@@ -29,11 +34,11 @@ participant-answered-requires c κs = search needs
 
 -- src/step.rt:203:1
 returns : tie.Need-returns
-returns c = ?
+returns c = rw (c .enum-told .given .1) (λ r h q e. (refl, e))
 
 -- src/step.rt:203:1
 returns-2 : tie.Need-returns-2
-returns-2 c = ?
+returns-2 c = rw (c .before .before .before .before .before .before .l .given .1) (reads-plain (λ n v d p x. participantAnswered (c .before .before .before .before .before .before .before .before .args .heard) (c .before .before .before .before .before .before .before .before .args .i) (c .before .before .before .before .before .before .before .before .args .j) (c .before .before .before .before .before .before .l .given .0 .0) (Participant.onAnswer n (c .before .before .before .before .before .before .before .before .args .i) p (c .before .before .before .before .before .before .before .before .args .j) (c .before .before .before .before .before .before .l .given .0 .0 .answer))) _ (c .before .before .before .before .before .before .before .before .args .i) 0 _ _ _ (c .before .before .before .before .before .before .before .before .pre .1) (lit< tt) (rw (c .before .answer .ensures, c .before .before .before .participant-at .ensures) at (c .participant-answered .ensures)))
 
 pub participant-performed-spec : {M : Type 1} → statement M
 participant-performed-spec =

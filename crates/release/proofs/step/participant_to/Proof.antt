@@ -1,3 +1,4 @@
+use Rattle.release.proofs.Leading.{participant-goes}
 use borrow.Author.Needs.{needs}
 use Rattle.release.proofs.step.participant_to.Statement.{statement}
 use Rattle.release.proofs.step.participant_to.Tie as tie
@@ -35,7 +36,7 @@ learnt-requires c κs = search needs
 
 -- src/step.rt:79:1
 returns : tie.Need-returns
-returns c = ?
+returns c = rw (c .learnt .ensures, c .before .known2 .ensures, c .before .before .known .ensures, c .before .before .before .before .before .before .before .participant-at .ensures, c .before .before .before .put-participant .ensures) (participant-goes _ _ _ _ _ (c .before .before .before .before .before .before .before .before .before .pre) (c .before .before .before .before .before .send .ensures))
 
 pub participant-to-spec : {M : Type 1} → statement M
 participant-to-spec =

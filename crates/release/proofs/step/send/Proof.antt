@@ -1,3 +1,5 @@
+use Rattle.mask.specs.Mask.{insert}
+use Rattle.release.proofs.Leading.{masks}
 use borrow.Author.Needs.{needs}
 use Rattle.release.proofs.step.send.Statement.{statement}
 use Rattle.release.proofs.step.send.Tie as tie
@@ -28,11 +30,11 @@ put-mask-requires c κs = search needs
 
 -- src/step.rt:39:1
 returns : tie.Need-returns
-returns c = ?
+returns c = rw (c .enum-told .given .1) (λ r h e. e)
 
 -- src/step.rt:39:1
 returns-2 : tie.Need-returns-2
-returns-2 c = ?
+returns-2 c = rw (c .before .before .before .before .before .before .s .given .1, c .put-mask .ensures, c .before .insert .ensures, c .before .before .before .mask-of .ensures) (masks (insert (c .before .before .before .before .before .before .before .before .args .i)) _ _)
 
 pub send-spec : {M : Type 1} → statement M
 send-spec =

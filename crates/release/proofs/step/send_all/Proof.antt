@@ -1,3 +1,4 @@
+use Rattle.release.proofs.Leading.{masks-all}
 use borrow.Author.Needs.{needs}
 use Rattle.release.proofs.step.send_all.Statement.{statement}
 use Rattle.release.proofs.step.send_all.Tie as tie
@@ -23,11 +24,11 @@ put-mask-requires c κs = search needs
 
 -- src/step.rt:53:1
 returns : tie.Need-returns
-returns c = ?
+returns c = rw (c .enum-told .given .1) (λ r h q e. e)
 
 -- src/step.rt:53:1
 returns-2 : tie.Need-returns-2
-returns-2 c = ?
+returns-2 c = rw (c .before .before .before .before .s .given .1, c .put-mask .ensures, c .before .full .ensures) (masks-all _ _ _)
 
 pub send-all-spec : {M : Type 1} → statement M
 send-all-spec =

@@ -1,3 +1,7 @@
+use lib.Dec.{lit<}
+use Rattle.coordinator.specs.Coordinator
+use Rattle.rules.specs.Step.{coordinatorGoes}
+use Rattle.release.proofs.Leading.{reads}
 use borrow.Author.Needs.{needs}
 use Rattle.release.proofs.step.start.Statement.{statement}
 use Rattle.release.proofs.step.start.Tie as tie
@@ -21,7 +25,7 @@ coordinator-goes-requires c κs = search needs
 
 -- src/step.rt:301:1
 returns : tie.Need-returns
-returns c = ?
+returns c = reads (λ n v d p x. coordinatorGoes (Coordinator.onStart d)) _ 0 0 _ _ _ (lit< tt) (lit< tt) (rw (c .before .start .ensures, c .before .before .before .coordinator .ensures) at (c .coordinator-goes .ensures))
 
 pub start-spec : {M : Type 1} → statement M
 start-spec =

@@ -1,3 +1,8 @@
+use native.Mathlib.Omega.{arith}
+use Rattle.rules.proofs.Bounds.{bounds}
+use Rattle.release.specs.Types.{Step}
+use Rattle.rules.specs.Step.{step}
+use Rattle.release.proofs.Leading.{under, numbered}
 use borrow.Author.Needs.{needs}
 use Rattle.release.proofs.step.step.Statement.{statement}
 use Rattle.release.proofs.step.step.Tie as tie
@@ -26,11 +31,11 @@ enum-known-s c = search needs
 
 -- src/step.rt:355:54
 sub-deliver : tie.Need-sub-deliver
-sub-deliver c = ?
+sub-deliver c = let start = c .before .before .before .before in let r = rw (c .before .before .s .given .1) at (bounds (start .args .n) (start .args .s) (start .pre .1)) in r .0
 
 -- src/step.rt:355:32
 deliver-requires : tie.Need-deliver-requires
-deliver-requires c κs = ?
+deliver-requires c κs = let start = c .before .before .before .before in let r = rw (c .before .before .s .given .1) at (bounds (start .args .n) (start .args .s) (start .pre .1)) in (start .pre .0, omega (arith, r .0, r .1, start .pre .0))
 
 -- src/step.rt:356:20
 enum-known-s-2 : tie.Need-enum-known-s-2
@@ -38,11 +43,11 @@ enum-known-s-2 c = search needs
 
 -- src/step.rt:356:56
 sub-deliver-copy : tie.Need-sub-deliver-copy
-sub-deliver-copy c = ?
+sub-deliver-copy c = let start = c .before .before .before .before in let r = rw (c .before .before .s2 .given .1) at (bounds (start .args .n) (start .args .s) (start .pre .1)) in r .0
 
 -- src/step.rt:356:29
 deliver-copy-requires : tie.Need-deliver-copy-requires
-deliver-copy-requires c κs = ?
+deliver-copy-requires c κs = let start = c .before .before .before .before in let r = rw (c .before .before .s2 .given .1) at (bounds (start .args .n) (start .args .s) (start .pre .1)) in (start .pre .0, omega (arith, r .0, r .1, start .pre .0))
 
 -- src/step.rt:357:20
 enum-known-s-3 : tie.Need-enum-known-s-3
@@ -50,7 +55,7 @@ enum-known-s-3 c = search needs
 
 -- src/step.rt:357:45
 sub-lose : tie.Need-sub-lose
-sub-lose c = ?
+sub-lose c = let start = c .before .before .before .before in let r = rw (c .before .before .s3 .given .1) at (bounds (start .args .n) (start .args .s) (start .pre .1)) in r .0
 
 -- src/step.rt:357:29
 lose-requires : tie.Need-lose-requires
@@ -62,11 +67,11 @@ enum-known-s-4 c = search needs
 
 -- src/step.rt:358:55
 sub-calls : tie.Need-sub-calls
-sub-calls c = ?
+sub-calls c = let start = c .before .before .before .before in let r = rw (c .before .before .s4 .given .1) at (bounds (start .args .n) (start .args .s) (start .pre .1)) in r .1
 
 -- src/step.rt:358:29
 calls-requires : tie.Need-calls-requires
-calls-requires c κs = ?
+calls-requires c κs = let start = c .before .before .before .before in let r = rw (c .before .before .s4 .given .1) at (bounds (start .args .n) (start .args .s) (start .pre .1)) in (start .pre .0, omega (arith, r .0, start .pre .0), omega (arith, r .1, r .2, start .pre .0), start .pre .2)
 
 -- src/step.rt:359:24
 enum-known-s-5 : tie.Need-enum-known-s-5
@@ -74,11 +79,11 @@ enum-known-s-5 c = search needs
 
 -- src/step.rt:359:60
 sub-calls-2 : tie.Need-sub-calls-2
-sub-calls-2 c = ?
+sub-calls-2 c = let start = c .before .before .before .before in let r = rw (c .before .before .s5 .given .1) at (bounds (start .args .n) (start .args .s) (start .pre .1)) in r .1
 
 -- src/step.rt:359:33
 calls-requires-2 : tie.Need-calls-requires-2
-calls-requires-2 c κs = ?
+calls-requires-2 c κs = let start = c .before .before .before .before in let r = rw (c .before .before .s5 .given .1) at (bounds (start .args .n) (start .args .s) (start .pre .1)) in (start .pre .0, omega (arith, r .0, start .pre .0), omega (arith, r .1, r .2, start .pre .0), start .pre .2)
 
 -- src/step.rt:360:23
 enum-known-s-6 : tie.Need-enum-known-s-6
@@ -86,7 +91,7 @@ enum-known-s-6 c = search needs
 
 -- src/step.rt:360:29
 timeout-requires : tie.Need-timeout-requires
-timeout-requires c κs = ?
+timeout-requires c κs = let start = c .before .before .before .before in let r = rw (c .before .before .s6 .given .1) at (bounds (start .args .n) (start .args .s) (start .pre .1)) in (start .pre .0, omega (arith, r, start .pre .0))
 
 -- src/step.rt:361:21
 enum-known-s-7 : tie.Need-enum-known-s-7
@@ -94,7 +99,7 @@ enum-known-s-7 c = search needs
 
 -- src/step.rt:361:27
 crash-requires : tie.Need-crash-requires
-crash-requires c κs = ?
+crash-requires c κs = let start = c .before .before .before .before in let r = rw (c .before .before .s7 .given .1) at (bounds (start .args .n) (start .args .s) (start .pre .1)) in (start .pre .0, omega (arith, r, start .pre .0))
 
 -- src/step.rt:362:23
 enum-known-s-8 : tie.Need-enum-known-s-8
@@ -102,43 +107,43 @@ enum-known-s-8 c = search needs
 
 -- src/step.rt:362:29
 restart-requires : tie.Need-restart-requires
-restart-requires c κs = ?
+restart-requires c κs = let start = c .before .before .before .before in let r = rw (c .before .before .s8 .given .1) at (bounds (start .args .n) (start .args .s) (start .pre .1)) in (start .pre .0, omega (arith, r, start .pre .0))
 
 -- src/step.rt:349:1
 returns : tie.Need-returns
-returns c = ?
+returns c = rw (c .before .before .enum-told .given .1) (c .start .ensures)
 
 -- src/step.rt:349:1
 returns-2 : tie.Need-returns-2
-returns-2 c = ?
+returns-2 c = let start = c .before .before .before .before .before in let r = rw (c .before .before .before .s .given .1) at (bounds (start .args .n) (start .args .s) (start .pre .1)) in rw (c .before .before .before .s .given .1) (numbered _ (λ p r. step r (Step.Deliver (c .before .before .before .s .given .0 .0) p)) _ _ _ _ (r .0) (c .deliver .ensures))
 
 -- src/step.rt:349:1
 returns-3 : tie.Need-returns-3
-returns-3 c = ?
+returns-3 c = let start = c .before .before .before .before .before in let r = rw (c .before .before .before .s2 .given .1) at (bounds (start .args .n) (start .args .s) (start .pre .1)) in rw (c .before .before .before .s2 .given .1) (numbered _ (λ p r. step r (Step.Copy (c .before .before .before .s2 .given .0 .0) p)) _ _ _ _ (r .0) (c .deliver-copy .ensures))
 
 -- src/step.rt:349:1
 returns-4 : tie.Need-returns-4
-returns-4 c = ?
+returns-4 c = let start = c .before .before .before .before .before in let r = rw (c .before .before .before .s3 .given .1) at (bounds (start .args .n) (start .args .s) (start .pre .1)) in rw (c .before .before .before .s3 .given .1) (numbered _ (λ p r. step r (Step.Lose (c .before .before .before .s3 .given .0 .0) p)) _ _ _ _ (r .0) (under _ _ _ _ _ (c .lose .ensures)))
 
 -- src/step.rt:349:1
 returns-5 : tie.Need-returns-5
-returns-5 c = ?
+returns-5 c = let start = c .before .before .before .before .before in let r = rw (c .before .before .before .s4 .given .1) at (bounds (start .args .n) (start .args .s) (start .pre .1)) in rw (c .before .before .before .s4 .given .1) (numbered _ (λ q r. step r (Step.Call (c .before .before .before .s4 .given .0 .0) q)) _ _ _ _ (r .1) (c .calls .ensures))
 
 -- src/step.rt:349:1
 returns-6 : tie.Need-returns-6
-returns-6 c = ?
+returns-6 c = let start = c .before .before .before .before .before in let r = rw (c .before .before .before .s5 .given .1) at (bounds (start .args .n) (start .args .s) (start .pre .1)) in rw (c .before .before .before .s5 .given .1) (numbered _ (λ q r. step r (Step.CallLost (c .before .before .before .s5 .given .0 .0) q)) _ _ _ _ (r .1) (c .calls2 .ensures))
 
 -- src/step.rt:349:1
 returns-7 : tie.Need-returns-7
-returns-7 c = ?
+returns-7 c = rw (c .before .before .before .s6 .given .1) (c .timeout .ensures)
 
 -- src/step.rt:349:1
 returns-8 : tie.Need-returns-8
-returns-8 c = ?
+returns-8 c = rw (c .before .before .before .s7 .given .1) (c .crash .ensures)
 
 -- src/step.rt:349:1
 returns-9 : tie.Need-returns-9
-returns-9 c = ?
+returns-9 c = rw (c .before .before .before .s8 .given .1) (c .restart .ensures)
 
 pub step-spec : {M : Type 1} → statement M
 step-spec =
