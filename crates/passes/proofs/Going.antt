@@ -17,31 +17,38 @@ use Rattle.schedule.proofs.Laws.{header-size}
 use Rattle.schedule.proofs.Records.{read-untested}
 use Rattle.rules.specs.Report.{outcomeNumber}
 use Rattle.rules.specs.Step.{step}
-use Rattle.rules.specs.Run.{after, Countable}
+use Rattle.rules.specs.Run.{after}
+use Rattle.state.specs.Fields.{fields, HasPlaces, releaseIn}
+use Rattle.state.proofs.Parts.{count-in}
+use Rattle.state.proofs.Filling.{fresh-places, release-in}
+use Rattle.release.specs.Leads.{LeadsUnder, CanCount}
 use Rattle.rules.proofs.Agreement.{replicate-all}
 use Rattle.rules.proofs.Causes.{cause}
 use Rattle.rules.proofs.Counts.{one-call-more}
 use Rattle.rules.proofs.Room.{caused-room}
-use Rattle.passes.specs.Types.{Step, Header, Record, Before, Read, Validated, Release}
+use Rattle.passes.specs.Types.{Step, Header, Record, Before, Read, Validated, Release, Outcome}
 use Rattle.passes.specs.Pass.{readingFrom, validatedAfter, validated, stepsOf, freshOf, stepBytes}
 use Rattle.passes.proofs.Reading.{First, read-first, read-refused, none-left, count-more, one-more, step-first}
 
--- before step i, whose record begins at `at`
-pub record Going (s : List ℕ) (h : Header) (start count : ℕ) (out₀ out : List ℕ) (at i : ℕ) (r : Release) : Type 0 where
+-- before step i, whose record begins at `at`: `l` are the numbers of the release
+pub record Going (s : List ℕ) (h : Header) (start count : ℕ) (out₀ out : List ℕ) (at i : ℕ) (l : List ℕ) : Type 0 where
   pub within : at ≤ length s
   pub few : i ≤ at
   pub short : length s ≤ longest
   pub same : length out ≡ length out₀
   pub room : count ≤ length out₀
   pub header : headerInRange h ≡ true
-  pub same-n : r .n ≡ h .n
-  pub calls : (p : ℕ) → getD (r .calls) p 0 ≤ i
+  pub release : Release
+  pub numbers : l ≡ fields release
+  pub has-places : HasPlaces release
+  pub same-n : release .n ≡ h .n
+  pub calls : (p : ℕ) → getD (release .calls) p 0 ≤ i
   pub left : validatedAfter i (readingFrom s h at) ≡ Validated.Steps h count
-  pub ends : after r (stepsOf (readingFrom s h at)) ≡ after (freshOf h) (stepsOf (readingFrom s h start))
-  pub report : sets out i (stepBytes r (stepsOf (readingFrom s h at))) ≡ sets out₀ 0 (stepBytes (freshOf h) (stepsOf (readingFrom s h start)))
+  pub ends : after release (stepsOf (readingFrom s h at)) ≡ after (freshOf h) (stepsOf (readingFrom s h start))
+  pub report : sets out i (stepBytes release (stepsOf (readingFrom s h at))) ≡ sets out₀ 0 (stepBytes (freshOf h) (stepsOf (readingFrom s h start)))
 
 pub set-out : (s : List ℕ) (h : Header) (start count : ℕ) (out : List ℕ) → start ≤ length s → length s ≤ longest → count ≤ length out
-    → headerInRange h ≡ true → validated (readingFrom s h start) ≡ Validated.Steps h count → Going s h start count out out start 0 (freshOf h)
+    → headerInRange h ≡ true → validated (readingFrom s h start) ≡ Validated.Steps h count → Going s h start count out out start 0 (fields (freshOf h))
 set-out s h start count out within short room header left =
     record {
       within = within;
@@ -50,6 +57,9 @@ set-out s h start count out within short room header left =
       same = refl;
       room = room;
       header = header;
+      release = freshOf h;
+      numbers = refl;
+      has-places = fresh-places (h .n) (h .votes);
       same-n = refl;
       calls = λ p. replicate-all (λ k. k ≤ 0) 9 p 0 (omega arith);
       left = left;
@@ -57,53 +67,67 @@ set-out s h start count out within short room header left =
       report = refl;
     }
 
-module _ {s : List ℕ} {h : Header} {start count : ℕ} {out₀ out : List ℕ} {at i : ℕ} {r : Release} (g : Going s h start count out₀ out at i r) (some : at < length s) where
+module _ {s : List ℕ} {h : Header} {start count : ℕ} {out₀ out : List ℕ} {at i : ℕ} {l : List ℕ} (g : Going s h start count out₀ out at i l) (some : at < length s) where
   -- a step may be taken: the release has room for n, and every count has room for one call more
-  pub small : r .n ≤ places
-  small = rw (g .same-n) (omega (arith, header-size h (g .header) .1))
+  pub small : h .n ≤ places
+  small = omega (arith, header-size h (g .header) .1)
 
-  pub countable : Countable (r .calls)
-  countable p = omega (arith, g .calls p, g .few, g .within, g .short)
+  pub countable : CanCount l
+  countable p q = rw (g .numbers, count-in (g .release) (g .has-places) p q) (omega (arith, g .calls p, g .few, g .within, g .short))
 
-  module _ (x : Record) (l : ℕ) (e : readerAnswers (drop at s) (Before.Header h) ≡ Read.Record x l) where
-    first : First s h at x l
-    first = read-first s h at some x l e
+  module _ (x : Record) (size : ℕ) (e : readerAnswers (drop at s) (Before.Header h) ≡ Read.Record x size) where
+    first : First s h at x size
+    first = read-first s h at some x size e
 
-    pub ranged : inRange (r .n) (recordStep x) ≡ true
-    ranged = rw (g .same-n) (first .ranged)
+    pub ranged : inRange (h .n) (recordStep x) ≡ true
+    ranged = first .ranged
 
-    pub fits : at + l ≤ length s
+    pub fits : at + size ≤ length s
     fits = first .within
 
-    here : validatedAfter i (withStep (recordStep x) (readingFrom s h (at + l))) ≡ Validated.Steps h count
+    here : validatedAfter i (withStep (recordStep x) (readingFrom s h (at + size))) ≡ Validated.Steps h count
     here = ap (validatedAfter i) (sym (first .first)) ∙ g .left
 
     pub has-room : i < length out
-    has-room = omega (arith, one-more i count h (recordStep x) (readingFrom s h (at + l)) here, g .room, g .same)
+    has-room = omega (arith, one-more i count h (recordStep x) (readingFrom s h (at + size)) here, g .room, g .same)
 
-    steps : stepsOf (readingFrom s h at) ≡ recordStep x ∷ stepsOf (readingFrom s h (at + l))
-    steps = ap stepsOf (first .first) ∙ step-first i count h (recordStep x) (readingFrom s h (at + l)) here
+    steps : stepsOf (readingFrom s h at) ≡ recordStep x ∷ stepsOf (readingFrom s h (at + size))
+    steps = ap stepsOf (first .first) ∙ step-first i count h (recordStep x) (readingFrom s h (at + size)) here
 
     -- one turn
-    pub go-on : Going s h start count out₀ (set out i (outcomeNumber (step r (recordStep x) .outcome))) (at + l) (i + 1) (step r (recordStep x) .next)
-    go-on =
-        let byte : ℕ = outcomeNumber (step r (recordStep x) .outcome) in
+    pub go-on : (o : Outcome) (k : List ℕ) → LeadsUnder (h .n) (λ r. step r (recordStep x)) l o k
+        → Going s h start count out₀ (set out i (outcomeNumber o)) (at + size) (i + 1) k
+    go-on o k leads =
+        let r : Release = g .release in
+        let led = leads r (g .has-places) (g .same-n) (g .numbers) in
         let next : Release = step r (recordStep x) .next in
-        let rest : List Step = stepsOf (readingFrom s h (at + l)) in
+        let byte : ℕ = outcomeNumber (step r (recordStep x) .outcome) in
+        let rest : List Step = stepsOf (readingFrom s h (at + size)) in
+        let same = caused-room r (cause r (recordStep x)) in
         record {
           within = first .within;
           few = omega (arith, g .few, first .some);
           short = g .short;
-          same = length-set out i byte ∙ g .same;
+          same = length-set out i (outcomeNumber o) ∙ g .same;
           room = g .room;
           header = g .header;
-          same-n = caused-room r (cause r (recordStep x)) .same-n ∙ g .same-n;
+          release = next;
+          numbers = led .1;
+          has-places =
+              record {
+                sites = same .sites ∙ g .has-places .sites;
+                logs = same .logs ∙ g .has-places .logs;
+                messages = same .messages ∙ g .has-places .messages;
+                calls = same .calls ∙ g .has-places .calls;
+              };
+          same-n = same .same-n ∙ g .same-n;
           calls = λ p. omega (arith, one-call-more r (recordStep x) p, g .calls p);
-          left = sym (count-more i (recordStep x) (readingFrom s h (at + l))) ∙ here;
+          left = sym (count-more i (recordStep x) (readingFrom s h (at + size))) ∙ here;
           ends = ap (after r) (sym steps) ∙ g .ends;
           report =
-              ap (λ j. sets (set out i byte) j (stepBytes next rest)) (add-one i)
-              ∙ ap (λ l. sets out i (stepBytes r l)) (sym steps)
+              ap (λ y. sets (set out i (outcomeNumber y)) (i + 1) (stepBytes next rest)) (led .0)
+              ∙ ap (λ j. sets (set out i byte) j (stepBytes next rest)) (add-one i)
+              ∙ ap (λ y. sets out i (stepBytes r y)) (sym steps)
               ∙ g .report;
         }
 
@@ -131,8 +155,10 @@ module _ {s : List ℕ} {h : Header} {start count : ℕ} {out₀ out : List ℕ}
       go (Read.Refused k p) e = absurd (no-refusal k p e)
 
 -- at the end
-pub arrived : {s : List ℕ} {h : Header} {start count : ℕ} {out₀ out : List ℕ} {at i : ℕ} {r : Release} → Going s h start count out₀ out at i r → length s ≤ at
-    → (r ≡ after (freshOf h) (stepsOf (readingFrom s h start))) × (out ≡ sets out₀ 0 (stepBytes (freshOf h) (stepsOf (readingFrom s h start))))
-arrived {s} {h} {start} {count} {out₀} {out} {at} {i} {r} g end =
+pub arrived : {s : List ℕ} {h : Header} {start count : ℕ} {out₀ out : List ℕ} {at i : ℕ} {l : List ℕ} → Going s h start count out₀ out at i l → length s ≤ at
+    → (releaseIn l ≡ after (freshOf h) (stepsOf (readingFrom s h start))) × (out ≡ sets out₀ 0 (stepBytes (freshOf h) (stepsOf (readingFrom s h start))))
+arrived {s} {h} {start} {count} {out₀} {out} {at} {i} {l} g end =
     let e = none-left s h at end in
-    (sym (ap (λ x. after r (stepsOf x)) e) ∙ g .ends, sym (ap (λ x. sets out i (stepBytes r (stepsOf x))) e) ∙ g .report)
+    let r : Release = g .release in
+    let back : releaseIn l ≡ r = ap releaseIn (g .numbers) ∙ release-in r (g .has-places) (λ p. omega (arith, g .calls p, g .few, g .within, g .short)) in
+    (back ∙ sym (ap (λ x. after r (stepsOf x)) e) ∙ g .ends, sym (ap (λ x. sets out i (stepBytes r (stepsOf x))) e) ∙ g .report)

@@ -2,8 +2,9 @@
 -- after are those that a definition of the rules gives for it. Assumes nothing.
 use mathlib.Core.Path.{_≡_}
 use mathlib.Core.List.{List}
-use Prim.Native.Nat.{ℕ, _+_, _<_}
+use Prim.Native.Nat.{ℕ, suc, _+_, _<_}
 use lib.ListN.{getD}
+use Rattle.store.specs.Log.{places}
 use Rattle.rules.specs.Run.{countLimit}
 use Rattle.state.specs.Fields.{fields, countsFrom, HasPlaces}
 use Rattle.release.specs.Types.{Outcome, Release, Report}
@@ -22,4 +23,4 @@ LeadsUnder n f before o after = (r : Release) → HasPlaces r → r .n ≡ n →
 
 -- every count has room for one call more
 abbrev pub CanCount : List ℕ → Type 0
-CanCount l = (p : ℕ) → getD l (countsFrom + p) 0 < countLimit
+CanCount l = (p : ℕ) → p < suc places → getD l (countsFrom + p) 0 < countLimit

@@ -7,6 +7,7 @@ pub use Rattle.kind.specs.declared.Step.{Step}
 pub use Rattle.schedule.specs.declared.Header.{Header}
 pub use Rattle.rules.specs.declared.Site.{Site}
 pub use Rattle.rules.specs.declared.Release.{Release}
+pub use Rattle.rules.specs.declared.Outcome.{Outcome}
 pub use Rattle.rules.specs.declared.Report.{Report}
 pub use Rattle.tail.specs.declared.ParticipantFields.{ParticipantFields}
 pub use Rattle.tail.specs.declared.Tail.{Tail}

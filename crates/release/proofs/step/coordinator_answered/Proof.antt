@@ -21,7 +21,7 @@ enum-known-t c = search needs
 
 -- src/step.rt:249:13
 count-call-requires : tie.Need-count-call-requires
-count-call-requires c κs = (omega arith, c .before .before .before .before .before .pre .2 0)
+count-call-requires c κs = (omega arith, c .before .before .before .before .before .pre .2 0 (omega arith))
 
 -- src/step.rt:250:13
 put-log-requires : tie.Need-put-log-requires

@@ -27,7 +27,7 @@ add-count-call c = search needs
 
 -- src/step.rt:192:13
 count-call-requires : tie.Need-count-call-requires
-count-call-requires c κs = (omega (arith, c .before .before .before .before .before .pre .0), c .before .before .before .before .before .pre .2 (c .before .before .before .before .before .args .i + 1))
+count-call-requires c κs = (omega (arith, c .before .before .before .before .before .pre .0), c .before .before .before .before .before .pre .2 (c .before .before .before .before .before .args .i + 1) (omega (arith, c .before .before .before .before .before .pre .0)))
 
 -- src/step.rt:193:13
 put-log-requires : tie.Need-put-log-requires

@@ -1,26 +1,46 @@
 -- `tail::Tail::stepped` meets its contract, case by case. Assumes nothing.
-use Rattle.tail.proofs.SingleCases.{handed-moved, handed-idle}
-use Rattle.tail.proofs.TailRange.{n-in-range, countable}
-use Rattle.tail.specs.Types.{Release}
-use Rattle.tail.specs.Single.{handed}
-use Rattle.rules.specs.Step.{step}
-use lib.ListN.{length, length-map}
 use mathlib.Core.Path.{_≡_, sym, ap, _∙_}
 use native.Mathlib.Omega.{arith}
-use mathlib.Core.Path.{sym, _∙_}
+use lib.ListN.{length-map}
+use Rattle.state.specs.Fields.{fields}
+use Rattle.tail.specs.Types.{Report}
+use Rattle.rules.specs.Report.{moves}
+use Rattle.rules.specs.Step.{step}
+use Rattle.tail.specs.Tail.{releaseOf}
+use Rattle.tail.specs.Single.{handed}
+use Rattle.tail.proofs.SingleCases.{handed-moved, handed-idle}
+use Rattle.tail.proofs.TailRange.{n-in-range}
+use Rattle.tail.proofs.Stepping.{can-count, same-outcome, same-report}
 use borrow.Author.Needs.{needs}
 use Rattle.tail.proofs.Tail.stepped.Statement.{statement}
 use Rattle.tail.proofs.Tail.stepped.Tie as tie
+
+step-requires : tie.Need-step-requires
+step-requires c κs = (n-in-range (c .before .before .before .args .self) (c .before .before .before .pre .0) .1, c .before .before .before .pre .1, can-count (c .before .before .before .args .self) (simp length-map at (c .before .before .before .good .0 .1 .1 .1 .1 .1 .1 .0 .1 .0 .1)) (simp length-map at (c .before .before .before .good .0 .1 .1 .1 .1 .1 .1 .1 .1 .0 .1 .0 .1)) (c .before .before .before .pre .0) _ (c .before .fields-of .ensures ∙ ap fields (c .before .before .release .ensures)))
+
+returns : tie.Need-returns
+returns c =
+    let report : Report = record { outcome = c .before .before .before .before .before .before .step .result; next = c .before .before .release2 .result } in
+    handed-moved (c .before .before .before .before .before .before .before .before .before .before .args .self) report (c .before .of .result) (c .report-byte .result) (sym (c .before .before .before .before .before .moves .ensures) ∙ c .before .before .before .before .if1 .taken) (c .before .of .ensures) (c .report-byte .ensures)
+    ∙ ap (handed (c .before .before .before .before .before .before .before .before .before .before .args .self)) (same-report (c .before .before .before .before .before .before .before .before .before .before .args .self) (simp length-map at (c .before .before .before .before .before .before .before .before .before .before .good .0 .1 .1 .1 .1 .1 .1 .0 .1 .0 .1)) (simp length-map at (c .before .before .before .before .before .before .before .before .before .before .good .0 .1 .1 .1 .1 .1 .1 .1 .1 .0 .1 .0 .1)) (c .before .before .before .before .before .before .before .before .before .before .pre .0) _ (c .before .before .before .before .before .before .before .before .fields-of .ensures ∙ ap fields (c .before .before .before .before .before .before .before .before .before .release .ensures)) (c .before .before .before .before .before .before .before .before .before .before .args .s) _ _ (c .before .before .before .before .before .before .step .ensures) _ (c .before .before .release2 .ensures))
+
+returns-2 : tie.Need-returns-2
+returns-2 c =
+    let self = c .before .before .before .before .before .before .before .args .self in
+    c .refused .ensures
+    ∙ handed-idle self (step (releaseOf self) (c .before .before .before .before .before .before .before .args .s)) (sym (ap moves (same-outcome (c .before .before .before .before .before .before .before .args .self) (simp length-map at (c .before .before .before .before .before .before .before .good .0 .1 .1 .1 .1 .1 .1 .0 .1 .0 .1)) (simp length-map at (c .before .before .before .before .before .before .before .good .0 .1 .1 .1 .1 .1 .1 .1 .1 .0 .1 .0 .1)) (c .before .before .before .before .before .before .before .pre .0) _ (c .before .before .before .before .before .fields-of .ensures ∙ ap fields (c .before .before .before .before .before .before .release .ensures)) (c .before .before .before .before .before .before .before .args .s) _ _ (c .before .before .before .step .ensures))) ∙ sym (c .before .before .moves .ensures) ∙ c .before .if1 .left)
 
 pub stepped-spec : {M : Type 1} → statement M
 stepped-spec =
     tie.close
     (tie.spec
     (λ c κs. search needs)
-    (λ c κs. let l : length (c .before .args .self .calls) ≡ 9 = simp length-map at (c .before .good .0 .1 .1 .1 .1 .1 .1 .1 .1 .0 .1 .0 .1) in rw (c .release .ensures) (omega (arith, n-in-range (c .before .args .self) (c .before .pre .0)), c .before .pre .1, countable (c .before .args .self) l (c .before .pre .0)))
+    (λ c κs. search needs)
+    step-requires
     (λ c κs. search needs)
     (λ c κs. search needs)
     (λ c κs. search needs)
     (λ c κs. search needs)
-    (λ c. handed-moved (c .before .before .before .before .before .before .before .args .self) (c .before .before .before .before .before .step .result) (c .before .of .result) (c .report-byte .result) (sym (c .before .before .before .before .moves .ensures) ∙ c .before .before .before .if1 .taken) (c .before .of .ensures) (c .report-byte .ensures) ∙ ap (handed (c .before .before .before .before .before .before .before .args .self)) (c .before .before .before .before .before .step .ensures ∙ ap (λ (r : Release). step r (c .before .before .before .before .before .before .before .args .s)) (c .before .before .before .before .before .before .release .ensures)))
-    (λ c. c .refused .ensures ∙ handed-idle (c .before .before .before .before .before .args .self) (c .before .before .before .step .result) (sym (c .before .before .moves .ensures) ∙ c .before .if1 .left) ∙ ap (handed (c .before .before .before .before .before .args .self)) (c .before .before .before .step .ensures ∙ ap (λ (r : Release). step r (c .before .before .before .before .before .args .s)) (c .before .before .before .before .release .ensures))))
+    (λ c κs. search needs)
+    returns
+    returns-2)
