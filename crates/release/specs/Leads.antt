@@ -1,5 +1,5 @@
--- What code that changes the numbers of a release in place is held to: whatever release the numbers before are of, what is answered and the numbers
--- after are those that a definition of the rules gives for it. Assumes nothing.
+-- What code that changes the numbers of a release in place is held to: whatever release the numbers and the store before are of, what is answered and
+-- the numbers and the store after are those that a definition of the rules gives for it. Assumes nothing.
 use mathlib.Core.Path.{_≡_}
 use mathlib.Core.List.{List}
 use Prim.Native.Nat.{ℕ, suc, _+_, _<_}
@@ -7,19 +7,26 @@ use lib.ListN.{getD}
 use Rattle.store.specs.Log.{places}
 use Rattle.rules.specs.Run.{countLimit}
 use Rattle.state.specs.Fields.{fields, countsFrom, HasPlaces}
-use Rattle.release.specs.Types.{Outcome, Release, Report}
+use Rattle.release.specs.Types.{Store, Outcome, Release, Report}
 
--- a change of the release, and one that takes its n
+-- a change of the release that takes its n
 abbrev pub PutsUnder : ℕ → (Release → Release) → List ℕ → List ℕ → Type 0
 PutsUnder n f before after = (r : Release) → HasPlaces r → r .n ≡ n → before ≡ fields r → after ≡ fields (f r)
 
--- a step of the release, and one that takes its n
+-- a step that leaves the store as it was, and one that takes n
 
 abbrev pub Leads : (Release → Report) → List ℕ → Outcome → List ℕ → Type 0
-Leads f before o after = (r : Release) → HasPlaces r → before ≡ fields r → (o ≡ f r .outcome) × (after ≡ fields (f r .next))
+Leads f before o after = (r : Release) → HasPlaces r → before ≡ fields r → (o ≡ f r .outcome) × (after ≡ fields (f r .next)) × (r .store ≡ f r .next .store)
 
 abbrev pub LeadsUnder : ℕ → (Release → Report) → List ℕ → Outcome → List ℕ → Type 0
-LeadsUnder n f before o after = (r : Release) → HasPlaces r → r .n ≡ n → before ≡ fields r → (o ≡ f r .outcome) × (after ≡ fields (f r .next))
+LeadsUnder n f before o after =
+    (r : Release) → HasPlaces r → r .n ≡ n → before ≡ fields r → (o ≡ f r .outcome) × (after ≡ fields (f r .next)) × (r .store ≡ f r .next .store)
+
+-- a step with the store before and after it
+abbrev pub Steps : ℕ → (Release → Report) → List ℕ → Store → Outcome → List ℕ → Store → Type 0
+Steps n f before store o after next =
+    (r : Release) → HasPlaces r → r .n ≡ n → before ≡ fields r → store ≡ r .store
+    → (o ≡ f r .outcome) × (after ≡ fields (f r .next)) × (next ≡ f r .next .store)
 
 -- every count has room for one call more
 abbrev pub CanCount : List ℕ → Type 0

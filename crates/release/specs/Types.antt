@@ -1,5 +1,6 @@
 -- The types of the layers below that one step of a release names.
 pub use Rattle.store.specs.declared.LogPair.{LogPair}
+pub use Rattle.store.specs.declared.Store.{Store}
 pub use Rattle.store.specs.declared.Logged.{Logged}
 pub use Rattle.store.specs.declared.Performed.{Performed}
 pub use Rattle.message.specs.declared.Message.{Message}
@@ -14,3 +15,4 @@ pub use Rattle.kind.specs.declared.Step.{Step}
 pub use Rattle.rules.specs.declared.Outcome.{Outcome}
 pub use Rattle.rules.specs.declared.Release.{Release}
 pub use Rattle.rules.specs.declared.Report.{Report}
+pub use Rattle.release.specs.declared.step.Stepped.{Stepped}

@@ -1,6 +1,6 @@
-// One step of a release, in place: `fields` are the numbers of the release, and a step changes those of the parts that it names. A contract says
-// what this is for the release that the numbers are of. `i` and `j` are places, which count from 0; `p` and `q` are the numbers of a party and of a
-// log; `n` is the release's own.
+// One step of a release: `fields` are its numbers, and a step changes those of the parts that it names, in place; the store goes in by value and
+// comes back. A contract says what this is for the release that they are of. `i` and `j` are places, which count from 0; `p` is the number of a
+// party; `n` is the release's own.
 use super::outcome::coordinator_known;
 use super::outcome::known;
 use super::outcome::learnt;
@@ -14,26 +14,42 @@ use rules::Outcome;
 use state::FIELDS;
 use state::coordinator;
 use state::count_call;
-use state::log_at;
 use state::mask_of;
 use state::participant_at;
 use state::put_coordinator;
-use state::put_log;
 use state::put_mask;
 use state::put_participant;
 use state::votes;
 use store::Logged;
 use store::Performed;
+use store::Store;
 ghost use mathlib.Core.Path.{_≡_};
 ghost use mathlib.Core.Bool.{true};
-ghost use Prim.Native.Nat.{suc, _≤_, _<_};
+ghost use Prim.Native.Nat.{ℕ, suc, _≤_, _<_};
 ghost use Rattle.mask.specs.Mask.{has};
 ghost use Rattle.store.specs.Log.{places};
 ghost use Rattle.kind.specs.Step.{inRange};
 ghost use Rattle.kind.specs.declared.Step.{Step};
 ghost use Rattle.rules.specs.Step.{drop, reply, participantTo, participantGoes, broadcast, coordinatorTo, coordinatorGoes, receive, participantAnswered, participantPerformed, participantCalls, coordinatorAnswered, coordinatorPerformed, coordinatorCalls, calls, step};
 ghost use Rattle.state.specs.Fields.{maskIn, Puts};
-ghost use Rattle.release.specs.Leads.{PutsUnder, Leads, LeadsUnder, CanCount};
+ghost use Rattle.release.specs.Leads.{PutsUnder, Leads, LeadsUnder, Steps, CanCount};
+
+// What a step reports, and the store after it.
+pub struct Stepped {
+    pub outcome: Outcome,
+    pub store: Store,
+}
+
+impl Stepped {
+    fn new(o: Outcome, store: Store) -> Stepped
+        ensures { λ x. ⌜ x ≡ record { outcome = o; store = store } ⌝ }
+    {
+        Stepped {
+            outcome: o,
+            store: store,
+        }
+    }
+}
 
 // Participant i sends its reply.
 fn send(fields: &mut [u32; FIELDS], s: Sent, i: u32)
@@ -176,25 +192,26 @@ fn lose(fields: &mut [u32; FIELDS], m: Message, i: u32) -> Outcome
 // What a performed call of participant i on log j leads to: the log changes, and where the answer is heard the participant does too.
 fn participant_answered(
     fields: &mut [u32; FIELDS],
+    store: Store,
     heard: bool,
     i: u32,
     j: u32,
     l: Logged,
     t: participant::Transition,
-) -> Outcome
+) -> Stepped
     requires { ⌜ (i < places) × (j < places) × CanCount (now fields) ⌝ }
-    ensures { λ o. ⌜ Leads (participantAnswered heard i j l t) (now (fields .entry)) o (now (fields .exit)) ⌝ }
+    ensures { λ x. ⌜ ((n : ℕ) → Steps n (participantAnswered heard i j l t) (now (fields .entry)) store (x .outcome) (now (fields .exit)) (x .store)) ⌝ }
 {
     match t {
-        participant::Transition::NotDue => Outcome::Idle,
+        participant::Transition::NotDue => Stepped::new(Outcome::Idle, store),
         participant::Transition::To(p, s) => {
             let log = l.log;
             count_call(fields, i + 1);
-            put_log(fields, j, log);
+            let next = store.with_log(j as usize, log);
             if heard {
-                participant_to(fields, i, p, s)
+                Stepped::new(participant_to(fields, i, p, s), next)
             } else {
-                Outcome::Moved
+                Stepped::new(Outcome::Moved, next)
             }
         }
     }
@@ -202,56 +219,58 @@ fn participant_answered(
 
 fn participant_performed(
     fields: &mut [u32; FIELDS],
+    store: Store,
     n: u32,
     heard: bool,
     i: u32,
     j: u32,
     l: Performed,
-) -> Outcome
+) -> Stepped
     requires { ⌜ (n ≤ places) × (i < places) × (j < places) × CanCount (now fields) ⌝ }
-    ensures { λ o. ⌜ LeadsUnder n (participantPerformed heard i j l) (now (fields .entry)) o (now (fields .exit)) ⌝ }
+    ensures { λ x. ⌜ Steps n (participantPerformed heard i j l) (now (fields .entry)) store (x .outcome) (now (fields .exit)) (x .store) ⌝ }
 {
     match l {
-        Performed::Refused => Outcome::Idle,
+        Performed::Refused => Stepped::new(Outcome::Idle, store),
         Performed::Done(done) => {
             let answer = done.answer;
             let p = participant_at(fields, i);
-            participant_answered(fields, heard, i, j, done, p.answer(n, i, j, answer))
+            participant_answered(fields, store, heard, i, j, done, p.answer(n, i, j, answer))
         }
     }
 }
 
-fn participant_calls(fields: &mut [u32; FIELDS], n: u32, heard: bool, i: u32, j: u32) -> Outcome
+fn participant_calls(fields: &mut [u32; FIELDS], store: Store, n: u32, heard: bool, i: u32, j: u32) -> Stepped
     requires { ⌜ (n ≤ places) × (i < places) × (j < places) × CanCount (now fields) ⌝ }
-    ensures { λ o. ⌜ LeadsUnder n (participantCalls heard i j) (now (fields .entry)) o (now (fields .exit)) ⌝ }
+    ensures { λ x. ⌜ Steps n (participantCalls heard i j) (now (fields .entry)) store (x .outcome) (now (fields .exit)) (x .store) ⌝ }
 {
     let p = participant_at(fields, i);
-    let log = log_at(fields, j);
-    participant_performed(fields, n, heard, i, j, log.perform(p.pending(i, j)))
+    let log = store.log_at(j as usize);
+    participant_performed(fields, store, n, heard, i, j, log.perform(p.pending(i, j)))
 }
 
 // The same for the coordinator.
 fn coordinator_answered(
     fields: &mut [u32; FIELDS],
+    store: Store,
     n: u32,
     heard: bool,
     j: u32,
     l: Logged,
     t: coordinator::Transition,
-) -> Outcome
+) -> Stepped
     requires { ⌜ (n ≤ places) × (j < places) × CanCount (now fields) ⌝ }
-    ensures { λ o. ⌜ LeadsUnder n (coordinatorAnswered heard j l t) (now (fields .entry)) o (now (fields .exit)) ⌝ }
+    ensures { λ x. ⌜ Steps n (coordinatorAnswered heard j l t) (now (fields .entry)) store (x .outcome) (now (fields .exit)) (x .store) ⌝ }
 {
     match t {
-        coordinator::Transition::NotDue => Outcome::Idle,
+        coordinator::Transition::NotDue => Stepped::new(Outcome::Idle, store),
         coordinator::Transition::To(c, s) => {
             let log = l.log;
             count_call(fields, 0);
-            put_log(fields, j, log);
+            let next = store.with_log(j as usize, log);
             if heard {
-                coordinator_to(fields, n, c, s)
+                Stepped::new(coordinator_to(fields, n, c, s), next)
             } else {
-                Outcome::Moved
+                Stepped::new(Outcome::Moved, next)
             }
         }
     }
@@ -259,42 +278,43 @@ fn coordinator_answered(
 
 fn coordinator_performed(
     fields: &mut [u32; FIELDS],
+    store: Store,
     n: u32,
     heard: bool,
     j: u32,
     l: Performed,
-) -> Outcome
+) -> Stepped
     requires { ⌜ (n ≤ places) × (j < places) × CanCount (now fields) ⌝ }
-    ensures { λ o. ⌜ LeadsUnder n (coordinatorPerformed heard j l) (now (fields .entry)) o (now (fields .exit)) ⌝ }
+    ensures { λ x. ⌜ Steps n (coordinatorPerformed heard j l) (now (fields .entry)) store (x .outcome) (now (fields .exit)) (x .store) ⌝ }
 {
     match l {
-        Performed::Refused => Outcome::Idle,
+        Performed::Refused => Stepped::new(Outcome::Idle, store),
         Performed::Done(done) => {
             let answer = done.answer;
             let c = coordinator(fields);
-            coordinator_answered(fields, n, heard, j, done, c.answer(n, j, answer))
+            coordinator_answered(fields, store, n, heard, j, done, c.answer(n, j, answer))
         }
     }
 }
 
-fn coordinator_calls(fields: &mut [u32; FIELDS], n: u32, heard: bool, j: u32) -> Outcome
+fn coordinator_calls(fields: &mut [u32; FIELDS], store: Store, n: u32, heard: bool, j: u32) -> Stepped
     requires { ⌜ (n ≤ places) × (j < places) × CanCount (now fields) ⌝ }
-    ensures { λ o. ⌜ LeadsUnder n (coordinatorCalls heard j) (now (fields .entry)) o (now (fields .exit)) ⌝ }
+    ensures { λ x. ⌜ Steps n (coordinatorCalls heard j) (now (fields .entry)) store (x .outcome) (now (fields .exit)) (x .store) ⌝ }
 {
     let c = coordinator(fields);
-    let log = log_at(fields, j);
-    coordinator_performed(fields, n, heard, j, log.perform(c.pending(j)))
+    let log = store.log_at(j as usize);
+    coordinator_performed(fields, store, n, heard, j, log.perform(c.pending(j)))
 }
 
 // A call of party p on the log at place j.
-fn calls(fields: &mut [u32; FIELDS], n: u32, heard: bool, p: u32, j: u32) -> Outcome
+fn calls(fields: &mut [u32; FIELDS], store: Store, n: u32, heard: bool, p: u32, j: u32) -> Stepped
     requires { ⌜ (n ≤ places) × (p ≤ places) × (j < places) × CanCount (now fields) ⌝ }
-    ensures { λ o. ⌜ LeadsUnder n (calls heard p (suc j)) (now (fields .entry)) o (now (fields .exit)) ⌝ }
+    ensures { λ x. ⌜ Steps n (calls heard p (suc j)) (now (fields .entry)) store (x .outcome) (now (fields .exit)) (x .store) ⌝ }
 {
     if p == 0 {
-        coordinator_calls(fields, n, heard, j)
+        coordinator_calls(fields, store, n, heard, j)
     } else {
-        participant_calls(fields, n, heard, p - 1, j)
+        participant_calls(fields, store, n, heard, p - 1, j)
     }
 }
 
@@ -345,20 +365,20 @@ fn restart(fields: &mut [u32; FIELDS], n: u32, p: u32) -> Outcome
     }
 }
 
-// One step that a reader yields under a header with n.
-pub fn step(fields: &mut [u32; FIELDS], n: u32, s: Step) -> Outcome
+// One step that a reader yields under a header with n. Only a store call changes the store.
+pub fn step(fields: &mut [u32; FIELDS], store: Store, n: u32, s: Step) -> Stepped
     requires { ⌜ (n ≤ places) × (inRange n s ≡ true) × CanCount (now fields) ⌝ }
-    ensures { λ o. ⌜ LeadsUnder n (λ r. step r s) (now (fields .entry)) o (now (fields .exit)) ⌝ }
+    ensures { λ x. ⌜ Steps n (λ r. step r s) (now (fields .entry)) store (x .outcome) (now (fields .exit)) (x .store) ⌝ }
 {
     match s {
-        Step::Start => start(fields, n),
-        Step::Deliver(m, p) => deliver(fields, n, m, p - 1),
-        Step::Copy(m, p) => deliver_copy(fields, n, m, p - 1),
-        Step::Lose(m, p) => lose(fields, m, p - 1),
-        Step::Call(p, q) => calls(fields, n, true, p, q - 1),
-        Step::CallLost(p, q) => calls(fields, n, false, p, q - 1),
-        Step::Timeout(p) => timeout(fields, n, p),
-        Step::Crash(p) => crash(fields, n, p),
-        Step::Restart(p) => restart(fields, n, p),
+        Step::Start => Stepped::new(start(fields, n), store),
+        Step::Deliver(m, p) => Stepped::new(deliver(fields, n, m, p - 1), store),
+        Step::Copy(m, p) => Stepped::new(deliver_copy(fields, n, m, p - 1), store),
+        Step::Lose(m, p) => Stepped::new(lose(fields, m, p - 1), store),
+        Step::Call(p, q) => calls(fields, store, n, true, p, q - 1),
+        Step::CallLost(p, q) => calls(fields, store, n, false, p, q - 1),
+        Step::Timeout(p) => Stepped::new(timeout(fields, n, p), store),
+        Step::Crash(p) => Stepped::new(crash(fields, n, p), store),
+        Step::Restart(p) => Stepped::new(restart(fields, n, p), store),
     }
 }

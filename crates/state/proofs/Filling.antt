@@ -6,12 +6,12 @@ use native.Mathlib.Omega.{arith}
 use lib.ListN.{length, getD, set}
 use Rattle.number.specs.Table.{tabulate}
 use Rattle.number.proofs.Table.{upTo, upTo-next, upTo-done, tabulate-list}
-use Rattle.store.specs.Log.{empty, places}
+use Rattle.store.specs.Log.{places}
 use Rattle.rules.specs.State.{types, waiting, fresh}
 use Rattle.rules.specs.Step.{withCoordinator}
-use Rattle.state.specs.Types.{LogPair, Participant, Site, Release}
-use Rattle.state.specs.Fields.{fields, messagesFrom, countsFrom, HasPlaces, withCoordinatorIn, withParticipantIn, withLogIn, logIn, messageIn, siteIn, countIn, releaseIn, Puts, withMessages, withSites, withLogs, withCalls}
-use Rattle.state.proofs.Parts.{coordinator-in, message-in, participant-in, log-in, count-in, with-coordinator, with-message, with-participant, with-log, with-count}
+use Rattle.state.specs.Types.{Participant, Site, Release}
+use Rattle.state.specs.Fields.{fields, messagesFrom, countsFrom, HasPlaces, withCoordinatorIn, withParticipantIn, messageIn, siteIn, countIn, releaseIn, Puts, withMessages, withSites, withCalls}
+use Rattle.state.proofs.Parts.{coordinator-in, message-in, participant-in, count-in, with-coordinator, with-message, with-participant, with-count}
 
 upTo-size : {A : Type 0} (i : ℕ) (f : ℕ → A) (l : List A) → length (upTo i f l) ≡ length l
 upTo-size zero f l = refl
@@ -27,29 +27,22 @@ module _ (before now : List ℕ) where
       → UpTo withMessages (λ r. r .messages) f (k + 1) before (set now (messagesFrom + k) x)
   one-message f k x g q u r h e =
       let t : Release = withMessages (upTo k f (r .messages)) r in
-      let places : HasPlaces t = record { sites = h .sites; logs = h .logs; messages = upTo-size k f (r .messages) ∙ h .messages; calls = h .calls } in
+      let places : HasPlaces t = record { sites = h .sites; messages = upTo-size k f (r .messages) ∙ h .messages; calls = h .calls } in
       ap (λ l. set l (messagesFrom + k) x) (u r h e) ∙ with-message t places k x g ∙ ap (λ l. fields (withMessages l r)) (upTo-next k f (r .messages) _ x refl q)
 
   pub one-count : (f : ℕ → ℕ) (p x : ℕ) → p < suc places → x ≡ f p → UpTo withCalls (λ r. r .calls) f p before now
       → UpTo withCalls (λ r. r .calls) f (p + 1) before (set now (countsFrom + p) x)
   one-count f p x g q u r h e =
       let t : Release = withCalls (upTo p f (r .calls)) r in
-      let places : HasPlaces t = record { sites = h .sites; logs = h .logs; messages = h .messages; calls = upTo-size p f (r .calls) ∙ h .calls } in
+      let places : HasPlaces t = record { sites = h .sites; messages = h .messages; calls = upTo-size p f (r .calls) ∙ h .calls } in
       ap (λ l. set l (countsFrom + p) x) (u r h e) ∙ with-count t places p x g ∙ ap (λ l. fields (withCalls l r)) (upTo-next p f (r .calls) _ x refl q)
 
   pub one-participant : (f : ℕ → Site) (i : ℕ) (s : Site) → i < places → s ≡ f i → UpTo withSites (λ r. r .sites) f i before now
       → UpTo withSites (λ r. r .sites) f (i + 1) before (withParticipantIn i (s .participant) now)
   one-participant f i s g q u r h e =
       let t : Release = withSites (upTo i f (r .sites)) r in
-      let places : HasPlaces t = record { sites = upTo-size i f (r .sites) ∙ h .sites; logs = h .logs; messages = h .messages; calls = h .calls } in
+      let places : HasPlaces t = record { sites = upTo-size i f (r .sites) ∙ h .sites; messages = h .messages; calls = h .calls } in
       ap (withParticipantIn i (s .participant)) (u r h e) ∙ with-participant t places i (s .participant) g ∙ ap (λ l. fields (withSites l r)) (upTo-next i f (r .sites) _ s refl q)
-
-  pub one-log : (f : ℕ → LogPair) (j : ℕ) (l : LogPair) → j < places → l ≡ f j → UpTo withLogs (λ r. r .store .logs) f j before now
-      → UpTo withLogs (λ r. r .store .logs) f (j + 1) before (withLogIn j l now)
-  one-log f j l g q u r h e =
-      let t : Release = withLogs (upTo j f (r .store .logs)) r in
-      let places : HasPlaces t = record { sites = h .sites; logs = upTo-size j f (r .store .logs) ∙ h .logs; messages = h .messages; calls = h .calls } in
-      ap (withLogIn j l) (u r h e) ∙ with-log t places j l g ∙ ap (λ x. fields (withLogs x r)) (upTo-next j f (r .store .logs) _ l refl q)
 
   -- all of them
   pub all-put : {A : Type 0} (with : List A → Release → Release) (piece : Release → List A) (f : ℕ → A) (k i : ℕ) → i ≤ k → k ≤ i
@@ -57,38 +50,35 @@ module _ (before now : List ℕ) where
   all-put with piece f k i g g′ q u r h e = u r h e ∙ ap (λ l. fields (with l r)) (upTo-done k i f (piece r) _ g g′ (q r h) refl)
 
 pub fresh-places : (n votes : ℕ) → HasPlaces (fresh places n votes)
-fresh-places n votes = record { sites = refl; logs = refl; messages = refl; calls = refl }
+fresh-places n votes = record { sites = refl; messages = refl; calls = refl }
 
 whole : {A : Type 0} (n : ℕ) (l : List A) (d : A) → length l ≡ n → tabulate n (λ i. getD l i d) ≡ l
 whole n l d g = tabulate-list n (λ i. getD l i d) l d g (λ i _. refl)
 
 -- a whole release, piece by piece
-pub all-pieces : (r : Release) → HasPlaces r → (a b c d e f : List ℕ) → a ≡ fields (fresh places (r .n) (r .votes)) → b ≡ withCoordinatorIn (r .coordinator) a
+pub all-pieces : (r : Release) → HasPlaces r → (a b c d e : List ℕ) → a ≡ fields (fresh places (r .n) (r .votes)) → b ≡ withCoordinatorIn (r .coordinator) a
     → Puts (withMessages (tabulate types (λ k. getD (r .messages) k 0))) b c
     → Puts (withSites (tabulate places (λ i. getD (r .sites) i waiting))) c d
-    → Puts (withLogs (tabulate places (λ j. getD (r .store .logs) j empty))) d e
-    → Puts (withCalls (tabulate (suc places) (λ p. getD (r .calls) p 0))) e f
-    → f ≡ fields r
-all-pieces r h a b c d e f p q m s l k =
+    → Puts (withCalls (tabulate (suc places) (λ p. getD (r .calls) p 0))) d e
+    → e ≡ fields r
+unfolding fields
+all-pieces r h a b c d e p q m s k =
     let begun : Release = withCoordinator (r .coordinator) (fresh places (r .n) (r .votes)) in
     let sent : Release = withMessages (r .messages) begun in
     let sited : Release = withSites (r .sites) sent in
-    let logged : Release = withLogs (r .store .logs) sited in
     let first : b ≡ fields begun = q ∙ ap (withCoordinatorIn (r .coordinator)) p ∙ with-coordinator (fresh places (r .n) (r .votes)) (fresh-places (r .n) (r .votes)) (r .coordinator) in
-    let second : c ≡ fields sent = m begun (record { sites = refl; logs = refl; messages = refl; calls = refl }) first ∙ ap (λ x. fields (withMessages x begun)) (whole types (r .messages) 0 (h .messages)) in
-    let third : d ≡ fields sited = s sent (record { sites = refl; logs = refl; messages = h .messages; calls = refl }) second ∙ ap (λ x. fields (withSites x sent)) (whole places (r .sites) waiting (h .sites)) in
-    let fourth : e ≡ fields logged = l sited (record { sites = h .sites; logs = refl; messages = h .messages; calls = refl }) third ∙ ap (λ x. fields (withLogs x sited)) (whole places (r .store .logs) empty (h .logs)) in
-    k logged (record { sites = h .sites; logs = h .logs; messages = h .messages; calls = refl }) fourth ∙ ap (λ x. fields (withCalls x logged)) (whole (suc places) (r .calls) 0 (h .calls))
+    let second : c ≡ fields sent = m begun (record { sites = refl; messages = refl; calls = refl }) first ∙ ap (λ x. fields (withMessages x begun)) (whole types (r .messages) 0 (h .messages)) in
+    let third : d ≡ fields sited = s sent (record { sites = refl; messages = h .messages; calls = refl }) second ∙ ap (λ x. fields (withSites x sent)) (whole places (r .sites) waiting (h .sites)) in
+    k sited (record { sites = h .sites; messages = h .messages; calls = refl }) third ∙ ap (λ x. fields (withCalls x sited)) (whole (suc places) (r .calls) 0 (h .calls))
 
 low : (k : ℕ) → k < 65536 → k % 65536 ≡ k
 low k g = omega arith
 
 -- and back
-pub release-in : (r : Release) → HasPlaces r → ((p : ℕ) → getD (r .calls) p 0 < 65536) → releaseIn (fields r) ≡ r
+pub release-in : (r : Release) → HasPlaces r → ((p : ℕ) → getD (r .calls) p 0 < 65536) → releaseIn (fields r) (r .store) ≡ r
 unfolding fields flatten
 release-in r h small =
     let m = tabulate-list types (messageIn (fields r)) (r .messages) 0 (h .messages) (λ k g. message-in r h k g) in
     let s = tabulate-list places (siteIn (fields r)) (r .sites) waiting (h .sites) (λ i g. ap (λ (p : Participant). record { participant = p }) (participant-in r h i g)) in
-    let l = tabulate-list places (logIn (fields r)) (r .store .logs) empty (h .logs) (λ j g. log-in r h j g) in
     let k = tabulate-list (suc places) (countIn (fields r)) (r .calls) 0 (h .calls) (λ p g. ap (λ n. n % 65536) (count-in r h p g) ∙ low (getD (r .calls) p 0) (small p)) in
-    rw (coordinator-in r h, m, s, l, k) refl
+    rw (coordinator-in r h, m, s, k) refl

@@ -6,16 +6,15 @@ use Prim.Native.Nat.{ℕ, suc, _+_, _<_}
 use native.Mathlib.Omega.{arith}
 use lib.Dec.{lit<}
 use lib.ListN.{length, getD, set, length-map, length-set, List·getD-map}
-use Rattle.store.specs.Log.{recordNumber, empty, places}
-use Rattle.store.proofs.Numbers.{record-numbers}
+use Rattle.store.specs.Log.{places}
 use Rattle.participant.specs.Participant
 use Rattle.participant.proofs.Numbers.{participant-numbers}
 use Rattle.coordinator.specs.Coordinator
 use Rattle.coordinator.proofs.Numbers.{coordinator-numbers}
-use Rattle.rules.specs.State.{types, waiting, participantOf, logOf, messagePlace, maskOf}
-use Rattle.rules.specs.Step.{withMask, withParticipant, withCoordinator, counted, withLog}
-use Rattle.state.specs.Types.{LogPair, Message, Participant, Coordinator, Site, Release}
-use Rattle.state.specs.Fields.{siteState, siteHeard, firstRecord, lastRecord, pieces, fields, messagesFrom, statesFrom, heardFrom, firstsFrom, lastsFrom, countsFrom, HasPlaces, votesIn, coordinatorIn, maskPlace, maskIn, participantIn, logIn, withCoordinatorIn, withMaskIn, withParticipantIn, withLogIn, countedIn, withMessages, withCalls}
+use Rattle.rules.specs.State.{types, waiting, participantOf, messagePlace, maskOf}
+use Rattle.rules.specs.Step.{withMask, withParticipant, withCoordinator, counted}
+use Rattle.state.specs.Types.{Message, Participant, Coordinator, Site, Release}
+use Rattle.state.specs.Fields.{siteState, siteHeard, pieces, fields, messagesFrom, statesFrom, heardFrom, countsFrom, HasPlaces, votesIn, coordinatorIn, maskPlace, maskIn, participantIn, withCoordinatorIn, withMaskIn, withParticipantIn, countedIn, withMessages, withCalls}
 use Rattle.state.proofs.Pieces.{begins, begins-set, read-piece, put-piece, set-map}
 
 mask-room : (m : Message) → messagePlace m < types
@@ -31,23 +30,17 @@ module _ (r : Release) (h : HasPlaces r) where
     messages : begins (pieces r) 1 ≡ messagesFrom
     states : begins (pieces r) 2 ≡ statesFrom
     heards : begins (pieces r) 3 ≡ heardFrom
-    firsts : begins (pieces r) 4 ≡ firstsFrom
-    lasts : begins (pieces r) 5 ≡ lastsFrom
-    counts : begins (pieces r) 6 ≡ countsFrom
+    counts : begins (pieces r) 4 ≡ countsFrom
 
   begin : Begins
   begin =
       let a = length-map (r .sites) siteState in
       let b = length-map (r .sites) siteHeard in
-      let c = length-map (r .store .logs) firstRecord in
-      let d = length-map (r .store .logs) lastRecord in
       record {
         messages = refl;
         states = omega (arith, h .messages);
         heards = omega (arith, h .messages, h .sites, a);
-        firsts = omega (arith, h .messages, h .sites, a, b);
-        lasts = omega (arith, h .messages, h .sites, h .logs, a, b, c);
-        counts = omega (arith, h .messages, h .sites, h .logs, a, b, c, d);
+        counts = omega (arith, h .messages, h .sites, a, b);
       }
 
   -- number i of piece k, which begins at a place
@@ -65,14 +58,8 @@ module _ (r : Release) (h : HasPlaces r) where
   site-number : (f : Site → ℕ) (i : ℕ) → f waiting ≡ 0 → getD (map f (r .sites)) i 0 ≡ f (getD (r .sites) i waiting)
   site-number f i q = rw (← q) (List·getD-map f (r .sites) i waiting)
 
-  log-number : (g : LogPair → ℕ) (j : ℕ) → g empty ≡ 0 → getD (map g (r .store .logs)) j 0 ≡ g (getD (r .store .logs) j empty)
-  log-number g j q = rw (← q) (List·getD-map g (r .store .logs) j empty)
-
   site-room : (f : Site → ℕ) (i : ℕ) → i < places → i < length (map f (r .sites))
   site-room f i g = omega (arith, length-map (r .sites) f, h .sites)
-
-  log-room : (f : LogPair → ℕ) (j : ℕ) → j < places → j < length (map f (r .store .logs))
-  log-room f j g = omega (arith, length-map (r .store .logs) f, h .logs)
 
   pub same-votes : votesIn (fields r) ≡ r .votes
   unfolding fields flatten
@@ -90,13 +77,6 @@ module _ (r : Release) (h : HasPlaces r) where
       (read 3 heardFrom i (begin .heards) (site-room siteHeard i g) ∙ site-number siteHeard i refl)
       ∙ participant-numbers .decoded (participantOf r i)
 
-  pub log-in : (j : ℕ) → j < places → logIn (fields r) j ≡ logOf r j
-  unfolding logIn
-  log-in j g =
-      rw (read 4 firstsFrom j (begin .firsts) (log-room firstRecord j g) ∙ log-number firstRecord j refl)
-      (rw (read 5 lastsFrom j (begin .lasts) (log-room lastRecord j g) ∙ log-number lastRecord j refl)
-      (rw (record-numbers .decoded (logOf r j .first)) (rw (record-numbers .decoded (logOf r j .last)) refl)))
-
   pub message-in : (k : ℕ) → k < types → getD (fields r) (messagesFrom + k) 0 ≡ getD (r .messages) k 0
   message-in k g = read 1 messagesFrom k (begin .messages) (omega (arith, h .messages))
 
@@ -105,7 +85,7 @@ module _ (r : Release) (h : HasPlaces r) where
   mask-in m = message-in (messagePlace m) (mask-room m)
 
   pub count-in : (p : ℕ) → p < suc places → getD (fields r) (countsFrom + p) 0 ≡ getD (r .calls) p 0
-  count-in p g = read 6 countsFrom p (begin .counts) (omega (arith, h .calls))
+  count-in p g = read 4 countsFrom p (begin .counts) (omega (arith, h .calls))
 
   -- parts put
 
@@ -119,7 +99,7 @@ module _ (r : Release) (h : HasPlaces r) where
 
   pub with-count : (p x : ℕ) → p < suc places → set (fields r) (countsFrom + p) x ≡ fields (withCalls (set (r .calls) p x) r)
   unfolding fields
-  with-count p x g = put 6 countsFrom p x (begin .counts) (omega (arith, h .calls))
+  with-count p x g = put 4 countsFrom p x (begin .counts) (omega (arith, h .calls))
 
   pub with-mask : (m : Message) (x : ℕ) → withMaskIn m x (fields r) ≡ fields (withMask m x r)
   unfolding withMaskIn maskPlace
@@ -144,12 +124,6 @@ module _ (r : Release) (h : HasPlaces r) where
       let s : Site = record { participant = p } in
       put-both 2 statesFrom heardFrom i (siteState s) (siteHeard s) (begin .states) (begin .heards) (site-room siteState i g) (site-room siteHeard i g)
       ∙ same-both 2 (set-map siteState (r .sites) i s) (set-map siteHeard (r .sites) i s)
-
-  pub with-log : (j : ℕ) (l : LogPair) → j < places → withLogIn j l (fields r) ≡ fields (withLog j l r)
-  unfolding withLogIn fields
-  with-log j l g =
-      put-both 4 firstsFrom lastsFrom j (firstRecord l) (lastRecord l) (begin .firsts) (begin .lasts) (log-room firstRecord j g) (log-room lastRecord j g)
-      ∙ same-both 4 (set-map firstRecord (r .store .logs) j l) (set-map lastRecord (r .store .logs) j l)
 
   pub counts-one : (p : ℕ) → p < suc places → countedIn p (fields r) ≡ fields (counted p r)
   unfolding countedIn

@@ -1,17 +1,17 @@
--- The state of a release as a list of numbers, and its parts read from there and put there. Places count from 0. That a part put into the list of a
--- release is that part of the release is proved in `proofs/Parts.antt`. Assumes nothing.
+-- The state of a release, but for its store, as a list of numbers, and its parts read from there and put there. Places count from 0. That a part
+-- put into the list of a release is that part of the release is proved in `proofs/Parts.antt`. Assumes nothing.
 use mathlib.Core.Path.{_≡_}
 use mathlib.Core.List.{List, [], _∷_, map, flatten}
 use Prim.Native.Nat.{ℕ, suc, _+_, _%_}
 use lib.ListN.{length, getD, set}
 use Rattle.number.specs.Table.{tabulate}
-use Rattle.store.specs.Log.{recordNumber, recordOf, places}
+use Rattle.store.specs.Log.{places}
 use Rattle.participant.specs.Participant
 use Rattle.coordinator.specs.Coordinator
 use Rattle.rules.specs.State.{types, messagePlace}
-use Rattle.state.specs.Types.{LogPair, Message, Participant, Coordinator, Site, Release}
+use Rattle.state.specs.Types.{Store, Message, Participant, Coordinator, Site, Release}
 
--- what is kept of each participant and log
+-- what is kept of each participant
 
 abbrev pub siteState : Site → ℕ
 siteState s = Participant.stateNumber (s .participant)
@@ -19,21 +19,13 @@ siteState s = Participant.stateNumber (s .participant)
 abbrev pub siteHeard : Site → ℕ
 siteHeard s = Participant.heardOf (s .participant)
 
-abbrev pub firstRecord : LogPair → ℕ
-firstRecord l = recordNumber (l .first)
-
-abbrev pub lastRecord : LogPair → ℕ
-lastRecord l = recordNumber (l .last)
-
--- n, votes, coordinator state and heard mask; a mask for each type of message; states; heard masks; first records; last records; counts of calls
+-- n, votes, coordinator state and heard mask; a mask for each type of message; states; heard masks; counts of calls
 abbrev pub pieces : Release → List (List ℕ)
 pieces r =
     (r .n ∷ r .votes ∷ Coordinator.stateNumber (r .coordinator) ∷ Coordinator.heardOf (r .coordinator) ∷ [])
     ∷ r .messages
     ∷ map siteState (r .sites)
     ∷ map siteHeard (r .sites)
-    ∷ map firstRecord (r .store .logs)
-    ∷ map lastRecord (r .store .logs)
     ∷ r .calls
     ∷ []
 
@@ -52,19 +44,12 @@ statesFrom = 9
 abbrev pub heardFrom : ℕ
 heardFrom = 17
 
-abbrev pub firstsFrom : ℕ
-firstsFrom = 25
-
-abbrev pub lastsFrom : ℕ
-lastsFrom = 33
-
 abbrev pub countsFrom : ℕ
-countsFrom = 41
+countsFrom = 25
 
--- a release has a place for each participant, log, type of message and party
+-- a release has a place for each participant, type of message and party
 pub record HasPlaces (r : Release) : Type 0 where
   pub sites : length (r .sites) ≡ places
-  pub logs : length (r .store .logs) ≡ places
   pub messages : length (r .messages) ≡ types
   pub calls : length (r .calls) ≡ suc places
 
@@ -85,9 +70,6 @@ maskIn l m = getD l (maskPlace m) 0
 unfoldable pub participantIn : List ℕ → ℕ → Participant
 participantIn l i = Participant.participantOf (getD l (statesFrom + i) 0) (getD l (heardFrom + i) 0)
 
-unfoldable pub logIn : List ℕ → ℕ → LogPair
-logIn l j = record { first = recordOf (getD l (firstsFrom + j) 0); last = recordOf (getD l (lastsFrom + j) 0) }
-
 -- a part put
 
 unfoldable pub withCoordinatorIn : Coordinator → List ℕ → List ℕ
@@ -99,13 +81,10 @@ withMaskIn m x l = set l (maskPlace m) x
 unfoldable pub withParticipantIn : ℕ → Participant → List ℕ → List ℕ
 withParticipantIn i p l = set (set l (statesFrom + i) (Participant.stateNumber p)) (heardFrom + i) (Participant.heardOf p)
 
-unfoldable pub withLogIn : ℕ → LogPair → List ℕ → List ℕ
-withLogIn j x l = set (set l (firstsFrom + j) (recordNumber (x .first))) (lastsFrom + j) (recordNumber (x .last))
-
 unfoldable pub countedIn : ℕ → List ℕ → List ℕ
 countedIn p l = set l (countsFrom + p) (getD l (countsFrom + p) 0 + 1)
 
--- the release that the numbers are of. A count has two bytes
+-- the release that the numbers and a store are of. A count has two bytes
 
 abbrev pub messageIn : List ℕ → ℕ → ℕ
 messageIn l k = getD l (messagesFrom + k) 0
@@ -116,15 +95,15 @@ siteIn l i = record { participant = participantIn l i }
 abbrev pub countIn : List ℕ → ℕ → ℕ
 countIn l p = getD l (countsFrom + p) 0 % 65536
 
-abbrev pub releaseIn : List ℕ → Release
-releaseIn l =
+abbrev pub releaseIn : List ℕ → Store → Release
+releaseIn l s =
     record {
       n = getD l 0 0;
       votes = votesIn l;
       coordinator = coordinatorIn l;
       messages = tabulate types (messageIn l);
       sites = tabulate places (siteIn l);
-      store = record { logs = tabulate places (logIn l) };
+      store = s;
       calls = tabulate (suc places) (countIn l);
     }
 
@@ -140,10 +119,6 @@ withMessages l r =
 abbrev pub withSites : List Site → Release → Release
 withSites l r =
     record { n = r .n; votes = r .votes; coordinator = r .coordinator; messages = r .messages; sites = l; store = r .store; calls = r .calls }
-
-abbrev pub withLogs : List LogPair → Release → Release
-withLogs l r =
-    record { n = r .n; votes = r .votes; coordinator = r .coordinator; messages = r .messages; sites = r .sites; store = record { logs = l }; calls = r .calls }
 
 abbrev pub withCalls : List ℕ → Release → Release
 withCalls l r =

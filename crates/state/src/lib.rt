@@ -1,6 +1,6 @@
-// The state of a release as an array of numbers, which a run changes in place: n and votes, the coordinator's state and heard mask, a mask for each
-// type of message; then every participant's state, every heard mask, every log's first record, every last record; then every party's count of
-// calls. `i` and `j` are the places of a participant and of a log, which count from 0.
+// The state of a release but for its store, as an array of numbers that a run changes in place: n and votes, the coordinator's state and heard mask,
+// a mask for each type of message; then every participant's state, every heard mask; then every party's count of calls. `i` is the place of a
+// participant, which counts from 0.
 use coordinator::Coordinator;
 use message::Message;
 use participant::Participant;
@@ -9,17 +9,15 @@ use rules::Release;
 use rules::Site;
 use rules::TYPES;
 use store::LOGS;
-use store::LogPair;
-use store::LogRecord;
 use store::Store;
 ghost use mathlib.Core.Path.{_≡_};
 ghost use Prim.Native.Nat.{suc, _+_, _<_};
 ghost use lib.ListN.{getD};
-ghost use Rattle.store.specs.Log.{empty, places};
+ghost use Rattle.store.specs.Log.{places};
 ghost use Rattle.rules.specs.Run.{countLimit};
 ghost use Rattle.number.specs.Table.{tabulate};
 ghost use Rattle.rules.specs.State.{types, waiting, fresh};
-ghost use Rattle.state.specs.Fields.{fields, countsFrom, votesIn, participantIn, coordinatorIn, logIn, maskIn, maskPlace, withParticipantIn, withCoordinatorIn, withLogIn, withMaskIn, countedIn, messageIn, siteIn, countIn, releaseIn, Puts, withMessages, withSites, withLogs, withCalls};
+ghost use Rattle.state.specs.Fields.{fields, countsFrom, votesIn, participantIn, coordinatorIn, maskIn, maskPlace, withParticipantIn, withCoordinatorIn, withMaskIn, countedIn, messageIn, siteIn, countIn, releaseIn, Puts, withMessages, withSites, withCalls};
 
 // Where each part begins.
 const VOTES: usize = 1;
@@ -32,11 +30,7 @@ const STATES: usize = MESSAGES + TYPES;
 
 const HEARD: usize = STATES + LOGS;
 
-const FIRSTS: usize = HEARD + LOGS;
-
-const LASTS: usize = FIRSTS + LOGS;
-
-const COUNTS: usize = LASTS + LOGS;
+const COUNTS: usize = HEARD + LOGS;
 
 // How many numbers there are.
 pub const FIELDS: usize = COUNTS + PARTIES;
@@ -76,28 +70,6 @@ pub fn put_coordinator(fields: &mut [u32; FIELDS], c: Coordinator)
 {
     fields[COORDINATOR] = c.number();
     fields[COORDINATOR + 1] = c.heard();
-}
-
-pub fn log_at(fields: &[u32; FIELDS], j: u32) -> LogPair
-    requires { ⌜ j < places ⌝ }
-    ensures { λ l. ⌜ l ≡ logIn (now (fields .entry)) j ⌝ }
-{
-    let k = j as usize;
-    LogPair {
-        first: LogRecord::of(fields[FIRSTS + k]),
-        last: LogRecord::of(fields[LASTS + k]),
-    }
-}
-
-pub fn put_log(fields: &mut [u32; FIELDS], j: u32, l: LogPair)
-    requires { ⌜ j < places ⌝ }
-    ensures { λ _. ⌜ now (fields .exit) ≡ withLogIn j l (now (fields .entry)) ⌝ }
-{
-    let k = j as usize;
-    let first = l.first;
-    let last = l.last;
-    fields[FIRSTS + k] = first.number();
-    fields[LASTS + k] = last.number();
 }
 
 // The place of a type's mask: type t has it at t - 1.
@@ -166,20 +138,6 @@ fn sites(fields: &[u32; FIELDS]) -> [Site; LOGS]
     sites
 }
 
-fn logs(fields: &[u32; FIELDS]) -> [LogPair; LOGS]
-    ensures { λ l. ⌜ l ≡ tabulate places (logIn (now (fields .entry))) ⌝ }
-{
-    let mut logs = [LogPair {
-        first: LogRecord::None,
-        last: LogRecord::None,
-    }; LOGS];
-    for j in 0..LOGS {
-        let log = log_at(fields, j as u32);
-        logs[j] = log;
-    }
-    logs
-}
-
 // A count has two bytes.
 fn counts(fields: &[u32; FIELDS]) -> [u16; PARTIES]
     ensures { λ l. ⌜ l ≡ tabulate (suc places) (countIn (now (fields .entry))) ⌝ }
@@ -191,14 +149,13 @@ fn counts(fields: &[u32; FIELDS]) -> [u16; PARTIES]
     counts
 }
 
-// The release that the numbers are of.
-pub fn release(fields: &[u32; FIELDS]) -> Release
-    ensures { λ r. ⌜ r ≡ releaseIn (now (fields .entry)) ⌝ }
+// The release that the numbers and the store are of.
+pub fn release(fields: &[u32; FIELDS], store: Store) -> Release
+    ensures { λ r. ⌜ r ≡ releaseIn (now (fields .entry)) store ⌝ }
 {
     let coordinator = coordinator(fields);
     let messages = messages(fields);
     let sites = sites(fields);
-    let logs = logs(fields);
     let calls = counts(fields);
     Release {
         n: fields[0],
@@ -206,7 +163,7 @@ pub fn release(fields: &[u32; FIELDS]) -> Release
         coordinator: coordinator,
         messages: messages,
         sites: sites,
-        store: Store { logs: logs },
+        store: store,
         calls: calls,
     }
 }
@@ -229,15 +186,6 @@ fn put_participants(fields: &mut [u32; FIELDS], sites: [Site; LOGS])
     }
 }
 
-fn put_logs(fields: &mut [u32; FIELDS], logs: [LogPair; LOGS])
-    ensures { λ _. ⌜ Puts (withLogs (tabulate places (λ j. getD logs j empty))) (now (fields .entry)) (now (fields .exit)) ⌝ }
-{
-    for j in 0..LOGS {
-        let log = logs[j];
-        put_log(fields, j as u32, log);
-    }
-}
-
 fn put_counts(fields: &mut [u32; FIELDS], counts: [u16; PARTIES])
     ensures { λ _. ⌜ Puts (withCalls (tabulate (suc places) (λ p. getD counts p 0))) (now (fields .entry)) (now (fields .exit)) ⌝ }
 {
@@ -254,14 +202,11 @@ pub fn fields_of(r: Release) -> [u32; FIELDS]
     let coordinator = r.coordinator;
     let messages = r.messages;
     let sites = r.sites;
-    let store = r.store;
-    let logs = store.logs;
     let calls = r.calls;
     let mut l = fresh(r.n, r.votes);
     put_coordinator(&mut l, coordinator);
     put_messages(&mut l, messages);
     put_participants(&mut l, sites);
-    put_logs(&mut l, logs);
     put_counts(&mut l, calls);
     l
 }

@@ -1,7 +1,7 @@
 // The store: write-once logs, the calls LogOnce and Log, and the two log entries.
 ghost use mathlib.Core.Path.{_≡_};
-ghost use lib.ListN.{getD, set};
-ghost use Rattle.store.specs.Log.{recordNumber, recordOf, isRecord, empty, isAllowed, logOnce, replaces, log, perform};
+ghost use lib.ListN.{getD, set, replicate};
+ghost use Rattle.store.specs.Log.{recordNumber, recordOf, isRecord, empty, places, isAllowed, logOnce, replaces, log, perform};
 ghost use Rattle.store.specs.Entry.{handed, logOnceEntry, logHands, logEntry};
 
 // How many logs a store has: one for each participant that it has room for.
@@ -238,6 +238,17 @@ impl LogPair {
 }
 
 impl Store {
+    // Every log is empty.
+    pub fn empty() -> Store
+        ensures { λ s. ⌜ s ≡ record { logs = replicate places empty } ⌝ }
+    {
+        let logs = [LogPair {
+            first: LogRecord::None,
+            last: LogRecord::None,
+        }; LOGS];
+        Store { logs: logs }
+    }
+
     // The log at place i. A place that no store has is empty.
     pub fn log_at(self, i: usize) -> LogPair
         ensures { λ l. ⌜ l ≡ getD (self .logs) i empty ⌝ }

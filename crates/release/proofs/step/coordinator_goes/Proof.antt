@@ -20,7 +20,7 @@ coordinator-to-requires c κs = search needs
 
 -- src/step.rt:110:1
 returns : tie.Need-returns
-returns c = rw (c .enum-told .given .1) (λ r h q e. (refl, e))
+returns c = rw (c .enum-told .given .1) (λ r h q e. (refl, e, refl))
 
 -- src/step.rt:110:1
 returns-2 : tie.Need-returns-2

@@ -20,7 +20,7 @@ drop-requires c κs = search needs
 
 -- src/step.rt:165:1
 returns : tie.Need-returns
-returns c = λ r h e. in-flight-leads (r .n) _ (c .before .before .before .before .before .args .m) (c .before .before .before .before .before .args .i) _ _ _ _ (c .before .before .if1 .taken) (c .before .before .before .in-flight .ensures) (after-mask (r .n) moved (remove (c .before .before .before .before .before .args .i)) (c .before .before .before .before .before .args .m) _ _ _ _ (c .drop .ensures) (λ r h q e. (refl, e))) r h refl e
+returns c = λ r h e. in-flight-leads (r .n) _ (c .before .before .before .before .before .args .m) (c .before .before .before .before .before .args .i) _ _ _ _ (c .before .before .if1 .taken) (c .before .before .before .in-flight .ensures) (after-mask (r .n) moved (remove (c .before .before .before .before .before .args .i)) (c .before .before .before .before .before .args .m) _ _ _ _ (c .drop .ensures) (λ r h q e. (refl, e, refl))) r h refl e
 
 -- src/step.rt:165:1
 returns-2 : tie.Need-returns-2

@@ -20,7 +20,7 @@ participant-to-requires c κs = search needs
 
 -- src/step.rt:89:1
 returns : tie.Need-returns
-returns c = rw (c .enum-told .given .1) (λ r h e. (refl, e))
+returns c = rw (c .enum-told .given .1) (λ r h e. (refl, e, refl))
 
 -- src/step.rt:89:1
 returns-2 : tie.Need-returns-2

@@ -1,10 +1,9 @@
-use lib.Dec.{lit<}
 use Rattle.mask.specs.Mask.{has}
 use Rattle.participant.specs.Participant
 use Rattle.coordinator.specs.Coordinator
 use Rattle.release.specs.Types.{Sent, Decision}
 use Rattle.rules.specs.Step.{participantTo, coordinatorGoes}
-use Rattle.release.proofs.Leading.{reads, reads-plain}
+use Rattle.release.proofs.Leading.{under, reads}
 use borrow.Author.Needs.{needs}
 use Rattle.release.proofs.step.receive.Statement.{statement}
 use Rattle.release.proofs.step.receive.Tie as tie
@@ -99,23 +98,23 @@ participant-to-requires-3 c κs = search needs
 
 -- src/step.rt:125:1
 returns : tie.Need-returns
-returns c = rw (c .before .before .before .enum-told .given .1) (reads-plain (λ n v d p x. participantTo (c .before .before .before .before .before .before .before .before .before .before .before .before .args .i) (Participant.onRequest (has (c .before .before .before .before .before .before .before .before .before .before .before .before .args .i) v) p) Sent.Nothing) _ (c .before .before .before .before .before .before .before .before .before .before .before .before .args .i) 0 _ _ _ (c .before .before .before .before .before .before .before .before .before .before .before .before .pre .1) (lit< tt) (rw (c .before .request .ensures, c .before .before .before .before .before .has .ensures, c .before .before .before .before .before .before .votes .ensures, c .before .before .before .before .before .before .before .before .participant-at .ensures) at (c .participant-to .ensures)))
+returns c = rw (c .before .before .before .enum-told .given .1) (reads _ (c .before .before .before .before .before .before .before .before .before .before .before .before .args .i) _ _ _ (c .before .before .before .before .before .before .before .before .before .before .before .before .pre .1) (λ n v d p. participantTo (c .before .before .before .before .before .before .before .before .before .before .before .before .args .i) (Participant.onRequest (has (c .before .before .before .before .before .before .before .before .before .before .before .before .args .i) v) p) Sent.Nothing) (under _ _ _ _ _ (rw (c .before .request .ensures, c .before .before .before .before .before .has .ensures, c .before .before .before .before .before .before .votes .ensures, c .before .before .before .before .before .before .before .before .participant-at .ensures) at (c .participant-to .ensures))))
 
 -- src/step.rt:125:1
 returns-2 : tie.Need-returns-2
-returns-2 c = rw (c .before .before .before .enum-told2 .given .1) (reads (λ n v d p x. coordinatorGoes (Coordinator.onReplyYes n (c .before .before .before .before .before .before .before .before .before .before .before .before .args .i) d)) _ (c .before .before .before .before .before .before .before .before .before .before .before .before .args .i) 0 _ _ _ (c .before .before .before .before .before .before .before .before .before .before .before .before .pre .1) (lit< tt) (rw (c .before .reply-yes .ensures, c .before .before .before .before .before .before .before .before .before .before .coordinator .ensures) at (c .coordinator-goes .ensures)))
+returns-2 c = rw (c .before .before .before .enum-told2 .given .1) (reads _ (c .before .before .before .before .before .before .before .before .before .before .before .before .args .i) _ _ _ (c .before .before .before .before .before .before .before .before .before .before .before .before .pre .1) (λ n v d p. coordinatorGoes (Coordinator.onReplyYes n (c .before .before .before .before .before .before .before .before .before .before .before .before .args .i) d)) (rw (c .before .reply-yes .ensures, c .before .before .before .before .before .before .before .before .before .before .coordinator .ensures) at (c .coordinator-goes .ensures)))
 
 -- src/step.rt:125:1
 returns-3 : tie.Need-returns-3
-returns-3 c = rw (c .before .before .before .enum-told3 .given .1) (reads (λ n v d p x. coordinatorGoes (Coordinator.onReplyAbort d)) _ (c .before .before .before .before .before .before .before .before .before .before .before .before .args .i) 0 _ _ _ (c .before .before .before .before .before .before .before .before .before .before .before .before .pre .1) (lit< tt) (rw (c .before .reply-abort .ensures, c .before .before .before .before .before .before .before .before .before .before .coordinator .ensures) at (c .coordinator-goes2 .ensures)))
+returns-3 c = rw (c .before .before .before .enum-told3 .given .1) (reads _ (c .before .before .before .before .before .before .before .before .before .before .before .before .args .i) _ _ _ (c .before .before .before .before .before .before .before .before .before .before .before .before .pre .1) (λ n v d p. coordinatorGoes (Coordinator.onReplyAbort d)) (rw (c .before .reply-abort .ensures, c .before .before .before .before .before .before .before .before .before .before .coordinator .ensures) at (c .coordinator-goes2 .ensures)))
 
 -- src/step.rt:125:1
 returns-4 : tie.Need-returns-4
-returns-4 c = rw (c .before .before .before .enum-told4 .given .1) (reads-plain (λ n v d p x. participantTo (c .before .before .before .before .before .before .before .before .before .before .before .before .args .i) (Participant.onDecision Decision.Commit p) Sent.Nothing) _ (c .before .before .before .before .before .before .before .before .before .before .before .before .args .i) 0 _ _ _ (c .before .before .before .before .before .before .before .before .before .before .before .before .pre .1) (lit< tt) (rw (c .before .decision .ensures, c .before .before .before .before .before .before .before .before .participant-at .ensures) at (c .participant-to2 .ensures)))
+returns-4 c = rw (c .before .before .before .enum-told4 .given .1) (reads _ (c .before .before .before .before .before .before .before .before .before .before .before .before .args .i) _ _ _ (c .before .before .before .before .before .before .before .before .before .before .before .before .pre .1) (λ n v d p. participantTo (c .before .before .before .before .before .before .before .before .before .before .before .before .args .i) (Participant.onDecision Decision.Commit p) Sent.Nothing) (under _ _ _ _ _ (rw (c .before .decision .ensures, c .before .before .before .before .before .before .before .before .participant-at .ensures) at (c .participant-to2 .ensures))))
 
 -- src/step.rt:125:1
 returns-5 : tie.Need-returns-5
-returns-5 c = rw (c .before .before .before .enum-told5 .given .1) (reads-plain (λ n v d p x. participantTo (c .before .before .before .before .before .before .before .before .before .before .before .before .args .i) (Participant.onDecision Decision.Abort p) Sent.Nothing) _ (c .before .before .before .before .before .before .before .before .before .before .before .before .args .i) 0 _ _ _ (c .before .before .before .before .before .before .before .before .before .before .before .before .pre .1) (lit< tt) (rw (c .before .decision2 .ensures, c .before .before .before .before .before .before .before .before .participant-at .ensures) at (c .participant-to3 .ensures)))
+returns-5 c = rw (c .before .before .before .enum-told5 .given .1) (reads _ (c .before .before .before .before .before .before .before .before .before .before .before .before .args .i) _ _ _ (c .before .before .before .before .before .before .before .before .before .before .before .before .pre .1) (λ n v d p. participantTo (c .before .before .before .before .before .before .before .before .before .before .before .before .args .i) (Participant.onDecision Decision.Abort p) Sent.Nothing) (under _ _ _ _ _ (rw (c .before .decision2 .ensures, c .before .before .before .before .before .before .before .before .participant-at .ensures) at (c .participant-to3 .ensures))))
 
 pub receive-spec : {M : Type 1} → statement M
 receive-spec =

@@ -5,7 +5,7 @@ use Rattle.participant.specs.Participant
 use Rattle.coordinator.specs.Coordinator
 use Rattle.release.specs.Types.{Step}
 use Rattle.rules.specs.Step.{participantGoes, coordinatorGoes, step}
-use Rattle.release.proofs.Leading.{reads, reads-plain, numbered}
+use Rattle.release.proofs.Leading.{under, reads, numbered}
 use borrow.Author.Needs.{needs}
 use Rattle.release.proofs.step.restart.Statement.{statement}
 use Rattle.release.proofs.step.restart.Tie as tie
@@ -52,11 +52,11 @@ participant-goes-requires c κs = search needs
 
 -- src/step.rt:335:1
 returns : tie.Need-returns
-returns c = rw (c .before .before .before .before .before .if1 .taken) (reads (λ n v d p x. coordinatorGoes (Coordinator.onRestart d)) _ 0 0 _ _ _ (lit< tt) (lit< tt) (rw (c .before .restart .ensures, c .before .before .before .coordinator .ensures) at (c .coordinator-goes .ensures)))
+returns c = rw (c .before .before .before .before .before .if1 .taken) (reads _ 0 _ _ _ (lit< tt) (λ n v d p. coordinatorGoes (Coordinator.onRestart d)) (rw (c .before .restart .ensures, c .before .before .before .coordinator .ensures) at (c .coordinator-goes .ensures)))
 
 -- src/step.rt:335:1
 returns-2 : tie.Need-returns-2
-returns-2 c = numbered _ (λ p r. step r (Step.Restart p)) _ _ _ _ (omega arith) (reads-plain (λ n v d p x. participantGoes (c .before .before .before .before .before .before .args .p - 1) (Participant.onRestart p)) _ (c .before .before .before .before .before .before .args .p - 1) 0 _ _ _ (omega (arith, c .before .before .before .before .before .before .pre .1)) (lit< tt) (rw (c .before .restart2 .ensures, c .before .before .before .participant-at .ensures) at (c .participant-goes .ensures)))
+returns-2 c = numbered _ (λ p r. step r (Step.Restart p)) _ _ _ _ (omega arith) (reads _ (c .before .before .before .before .before .before .args .p - 1) _ _ _ (omega (arith, c .before .before .before .before .before .before .pre .1)) (λ n v d p. participantGoes (c .before .before .before .before .before .before .args .p - 1) (Participant.onRestart p)) (under _ _ _ _ _ (rw (c .before .restart2 .ensures, c .before .before .before .participant-at .ensures) at (c .participant-goes .ensures))))
 
 pub restart-spec : {M : Type 1} → statement M
 restart-spec =

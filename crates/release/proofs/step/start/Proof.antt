@@ -25,7 +25,7 @@ coordinator-goes-requires c κs = search needs
 
 -- src/step.rt:301:1
 returns : tie.Need-returns
-returns c = reads (λ n v d p x. coordinatorGoes (Coordinator.onStart d)) _ 0 0 _ _ _ (lit< tt) (lit< tt) (rw (c .before .start .ensures, c .before .before .before .coordinator .ensures) at (c .coordinator-goes .ensures))
+returns c = reads _ 0 _ _ _ (lit< tt) (λ n v d p. coordinatorGoes (Coordinator.onStart d)) (rw (c .before .start .ensures, c .before .before .before .coordinator .ensures) at (c .coordinator-goes .ensures))
 
 pub start-spec : {M : Type 1} → statement M
 start-spec =
