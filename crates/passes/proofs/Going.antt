@@ -1,6 +1,6 @@
 -- What holds while the steps run: the rest of the schedule, from the release and the report as they are, gives what the whole gives from the
 -- start. Assumes nothing.
-use mathlib.Core.Path.{_≡_, refl, sym, ap, _∙_}
+use mathlib.Core.Path.{_≡_, refl, sym, ap, ap₂, _∙_}
 use mathlib.Core.Bool.{true}
 use mathlib.Core.List.{List, _∷_}
 use Prim.Native.Nat.{ℕ, _+_, _≤_, _<_}
@@ -21,17 +21,17 @@ use Rattle.rules.specs.Run.{after}
 use Rattle.state.specs.Fields.{fields, HasPlaces, releaseIn}
 use Rattle.state.proofs.Parts.{count-in}
 use Rattle.state.proofs.Filling.{fresh-places, release-in}
-use Rattle.release.specs.Leads.{LeadsUnder, CanCount}
+use Rattle.release.specs.Leads.{Steps, CanCount}
 use Rattle.rules.proofs.Agreement.{replicate-all}
 use Rattle.rules.proofs.Causes.{cause}
 use Rattle.rules.proofs.Counts.{one-call-more}
 use Rattle.rules.proofs.Room.{caused-room}
-use Rattle.passes.specs.Types.{Step, Header, Record, Before, Read, Validated, Release, Outcome}
+use Rattle.passes.specs.Types.{Step, Header, Record, Before, Read, Validated, Store, Release, Outcome}
 use Rattle.passes.specs.Pass.{readingFrom, validatedAfter, validated, stepsOf, freshOf, stepBytes}
 use Rattle.passes.proofs.Reading.{First, read-first, read-refused, none-left, count-more, one-more, step-first}
 
--- before step i, whose record begins at `at`: `l` are the numbers of the release
-pub record Going (s : List ℕ) (h : Header) (start count : ℕ) (out₀ out : List ℕ) (at i : ℕ) (l : List ℕ) : Type 0 where
+-- before step i, whose record begins at `at`: `l` are the numbers of the release, beside its store
+pub record Going (s : List ℕ) (h : Header) (start count : ℕ) (out₀ out : List ℕ) (at i : ℕ) (l : List ℕ) (store : Store) : Type 0 where
   pub within : at ≤ length s
   pub few : i ≤ at
   pub short : length s ≤ longest
@@ -40,6 +40,7 @@ pub record Going (s : List ℕ) (h : Header) (start count : ℕ) (out₀ out : L
   pub header : headerInRange h ≡ true
   pub release : Release
   pub numbers : l ≡ fields release
+  pub stored : store ≡ release .store
   pub has-places : HasPlaces release
   pub same-n : release .n ≡ h .n
   pub calls : (p : ℕ) → getD (release .calls) p 0 ≤ i
@@ -48,7 +49,7 @@ pub record Going (s : List ℕ) (h : Header) (start count : ℕ) (out₀ out : L
   pub report : sets out i (stepBytes release (stepsOf (readingFrom s h at))) ≡ sets out₀ 0 (stepBytes (freshOf h) (stepsOf (readingFrom s h start)))
 
 pub set-out : (s : List ℕ) (h : Header) (start count : ℕ) (out : List ℕ) → start ≤ length s → length s ≤ longest → count ≤ length out
-    → headerInRange h ≡ true → validated (readingFrom s h start) ≡ Validated.Steps h count → Going s h start count out out start 0 (fields (freshOf h))
+    → headerInRange h ≡ true → validated (readingFrom s h start) ≡ Validated.Steps h count → Going s h start count out out start 0 (fields (freshOf h)) (freshOf h .store)
 set-out s h start count out within short room header left =
     record {
       within = within;
@@ -59,6 +60,7 @@ set-out s h start count out within short room header left =
       header = header;
       release = freshOf h;
       numbers = refl;
+      stored = refl;
       has-places = fresh-places (h .n) (h .votes);
       same-n = refl;
       calls = λ p. replicate-all (λ k. k ≤ 0) 9 p 0 (omega arith);
@@ -67,7 +69,7 @@ set-out s h start count out within short room header left =
       report = refl;
     }
 
-module _ {s : List ℕ} {h : Header} {start count : ℕ} {out₀ out : List ℕ} {at i : ℕ} {l : List ℕ} (g : Going s h start count out₀ out at i l) (some : at < length s) where
+module _ {s : List ℕ} {h : Header} {start count : ℕ} {out₀ out : List ℕ} {at i : ℕ} {l : List ℕ} {store : Store} (g : Going s h start count out₀ out at i l store) (some : at < length s) where
   -- a step may be taken: the release has room for n, and every count has room for one call more
   pub small : h .n ≤ places
   small = omega (arith, header-size h (g .header) .1)
@@ -95,11 +97,11 @@ module _ {s : List ℕ} {h : Header} {start count : ℕ} {out₀ out : List ℕ}
     steps = ap stepsOf (first .first) ∙ step-first i count h (recordStep x) (readingFrom s h (at + size)) here
 
     -- one turn
-    pub go-on : (o : Outcome) (k : List ℕ) → LeadsUnder (h .n) (λ r. step r (recordStep x)) l o k
-        → Going s h start count out₀ (set out i (outcomeNumber o)) (at + size) (i + 1) k
-    go-on o k leads =
+    pub go-on : (o : Outcome) (k : List ℕ) (t : Store) → Steps (h .n) (λ r. step r (recordStep x)) l store o k t
+        → Going s h start count out₀ (set out i (outcomeNumber o)) (at + size) (i + 1) k t
+    go-on o k t leads =
         let r : Release = g .release in
-        let led = leads r (g .has-places) (g .same-n) (g .numbers) in
+        let led = leads r (g .has-places) (g .same-n) (g .numbers) (g .stored) in
         let next : Release = step r (recordStep x) .next in
         let byte : ℕ = outcomeNumber (step r (recordStep x) .outcome) in
         let rest : List Step = stepsOf (readingFrom s h (at + size)) in
@@ -113,10 +115,10 @@ module _ {s : List ℕ} {h : Header} {start count : ℕ} {out₀ out : List ℕ}
           header = g .header;
           release = next;
           numbers = led .1;
+          stored = led .2;
           has-places =
               record {
                 sites = same .sites ∙ g .has-places .sites;
-                logs = same .logs ∙ g .has-places .logs;
                 messages = same .messages ∙ g .has-places .messages;
                 calls = same .calls ∙ g .has-places .calls;
               };
@@ -155,10 +157,10 @@ module _ {s : List ℕ} {h : Header} {start count : ℕ} {out₀ out : List ℕ}
       go (Read.Refused k p) e = absurd (no-refusal k p e)
 
 -- at the end
-pub arrived : {s : List ℕ} {h : Header} {start count : ℕ} {out₀ out : List ℕ} {at i : ℕ} {l : List ℕ} → Going s h start count out₀ out at i l → length s ≤ at
-    → (releaseIn l ≡ after (freshOf h) (stepsOf (readingFrom s h start))) × (out ≡ sets out₀ 0 (stepBytes (freshOf h) (stepsOf (readingFrom s h start))))
-arrived {s} {h} {start} {count} {out₀} {out} {at} {i} {l} g end =
+pub arrived : {s : List ℕ} {h : Header} {start count : ℕ} {out₀ out : List ℕ} {at i : ℕ} {l : List ℕ} {store : Store} → Going s h start count out₀ out at i l store → length s ≤ at
+    → (releaseIn l store ≡ after (freshOf h) (stepsOf (readingFrom s h start))) × (out ≡ sets out₀ 0 (stepBytes (freshOf h) (stepsOf (readingFrom s h start))))
+arrived {s} {h} {start} {count} {out₀} {out} {at} {i} {l} {store} g end =
     let e = none-left s h at end in
     let r : Release = g .release in
-    let back : releaseIn l ≡ r = ap releaseIn (g .numbers) ∙ release-in r (g .has-places) (λ p. omega (arith, g .calls p, g .few, g .within, g .short)) in
+    let back : releaseIn l store ≡ r = ap₂ releaseIn (g .numbers) (g .stored) ∙ release-in r (g .has-places) (λ p. omega (arith, g .calls p, g .few, g .within, g .short)) in
     (back ∙ sym (ap (λ x. after r (stepsOf x)) e) ∙ g .ends, sym (ap (λ x. sets out i (stepBytes r (stepsOf x))) e) ∙ g .report)

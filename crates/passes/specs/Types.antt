@@ -4,6 +4,7 @@ pub use Rattle.schedule.specs.declared.Header.{Header}
 pub use Rattle.schedule.specs.declared.Record.{Record}
 pub use Rattle.schedule.specs.declared.reader.Before.{Before}
 pub use Rattle.schedule.specs.declared.reader.Read.{Read}
+pub use Rattle.store.specs.declared.Store.{Store}
 pub use Rattle.rules.specs.declared.Release.{Release}
 pub use Rattle.rules.specs.declared.Outcome.{Outcome}
 pub use Rattle.passes.specs.declared.Validated.{Validated}

@@ -14,6 +14,7 @@ use schedule::reader::read_record;
 use schedule::reader::step_at;
 use state::fresh;
 use state::release;
+use store::Store;
 ghost use mathlib.Core.Path.{_≡_};
 ghost use Prim.Native.Nat.{_≤_};
 ghost use lib.ListN.{length};
@@ -76,7 +77,7 @@ pub fn validate(schedule: &[u8]) -> Validated
 }
 
 // The second pass: takes the steps of a schedule that was validated, writes a byte for each, and answers the release that they leave. What the
-// first pass tested is not tested again. The release is kept as numbers, which each step changes in place.
+// first pass tested is not tested again. The release is kept as its store and as numbers, which each step changes in place.
 pub fn run_steps(schedule: &[u8], header: Header, count: usize, report: &mut [u8]) -> Release
     requires { ⌜ (validated (readSchedule (now schedule)) ≡ Validated.Steps header count) × (count ≤ length (now report)) ⌝ }
     ensures { λ r. ⌜ (r ≡ after (freshOf header) (stepsOf (readSchedule (now (schedule .entry)))))
@@ -84,15 +85,18 @@ pub fn run_steps(schedule: &[u8], header: Header, count: usize, report: &mut [u8
 {
     let n = header.n;
     let mut fields = fresh(n, header.votes);
+    let mut store = Store::empty();
     let mut at = FIRST_STEP;
     let mut i: usize = 0;
     while at < schedule.len() {
         let s = step_at(&schedule[at..]);
         let size = length_at(&schedule[at..]);
-        let outcome = step(&mut fields, n, s);
+        let stepped = step(&mut fields, store, n, s);
+        let outcome = stepped.outcome;
         report[i] = report_byte(outcome);
+        store = stepped.store;
         at = at + size;
         i = i + 1;
     }
-    release(&fields)
+    release(&fields, store)
 }

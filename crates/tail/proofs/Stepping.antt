@@ -1,5 +1,5 @@
 -- The single step takes the rules' step on the numbers of its release. Assumes nothing.
-use mathlib.Core.Path.{_≡_, refl, ap, ap₂, _∙_}
+use mathlib.Core.Path.{_≡_, refl, ap₂, _∙_}
 use mathlib.Core.Bool.{true}
 use mathlib.Core.List.{List}
 use Prim.Native.Nat.{ℕ}
@@ -14,21 +14,21 @@ use Rattle.rules.proofs.Room.{caused-room}
 use Rattle.state.specs.Fields.{fields, HasPlaces, releaseIn}
 use Rattle.state.proofs.Parts.{count-in}
 use Rattle.state.proofs.Filling.{release-in}
-use Rattle.release.specs.Leads.{LeadsUnder, CanCount}
+use Rattle.release.specs.Leads.{Steps, CanCount}
 use Rattle.tail.specs.Tail.{releaseOf, tailInRange}
-use Rattle.tail.specs.Types.{Tail, Step, Release, Report, Outcome}
+use Rattle.tail.specs.Types.{Tail, Step, Store, Release, Report, Outcome}
 use Rattle.tail.proofs.TailRange.{countable}
 
 module _ (t : Tail) (m : length (t .messages) ≡ 5) (k : length (t .calls) ≡ 9) (q : tailInRange t ≡ true) (l : List ℕ) (e : l ≡ fields (releaseOf t)) where
   tail-places : HasPlaces (releaseOf t)
-  tail-places = record { sites = length-tabulate places _; logs = length-tabulate places _; messages = m; calls = k }
+  tail-places = record { sites = length-tabulate places _; messages = m; calls = k }
 
   pub can-count : CanCount l
   can-count p g = rw (e, count-in (releaseOf t) tail-places p g) (countable t k q p)
 
-  module _ (s : Step) (o : Outcome) (after : List ℕ) (leads : LeadsUnder (t .n) (λ r. step r s) l o after) where
-    led : (o ≡ step (releaseOf t) s .outcome) × (after ≡ fields (step (releaseOf t) s .next))
-    led = leads (releaseOf t) tail-places refl e
+  module _ (s : Step) (o : Outcome) (after : List ℕ) (before next : Store) (b : before ≡ releaseOf t .store) (leads : Steps (t .n) (λ r. step r s) l before o after next) where
+    led : (o ≡ step (releaseOf t) s .outcome) × (after ≡ fields (step (releaseOf t) s .next)) × (next ≡ step (releaseOf t) s .next .store)
+    led = leads (releaseOf t) tail-places refl e b
 
     pub same-outcome : o ≡ step (releaseOf t) s .outcome
     same-outcome = led .0
@@ -38,12 +38,11 @@ module _ (t : Tail) (m : length (t .messages) ≡ 5) (k : length (t .calls) ≡ 
         let same = caused-room (releaseOf t) (cause (releaseOf t) s) in
         record {
           sites = same .sites ∙ tail-places .sites;
-          logs = same .logs ∙ tail-places .logs;
           messages = same .messages ∙ tail-places .messages;
           calls = same .calls ∙ tail-places .calls;
         }
 
-    pub same-report : (x : Release) → x ≡ releaseIn after → _≡_ {A = Report} (record { outcome = o; next = x }) (step (releaseOf t) s)
+    pub same-report : (x : Release) → x ≡ releaseIn after next → _≡_ {A = Report} (record { outcome = o; next = x }) (step (releaseOf t) s)
     same-report x y =
         ap₂ (λ (x : Outcome) (r : Release). record { outcome = x; next = r }) same-outcome
-        (y ∙ ap releaseIn (led .1) ∙ release-in (step (releaseOf t) s .next) next-places (λ p. omega (arith, one-call-more (releaseOf t) s p, countable t k q p)))
+        (y ∙ ap₂ releaseIn (led .1) (led .2) ∙ release-in (step (releaseOf t) s .next) next-places (λ p. omega (arith, one-call-more (releaseOf t) s p, countable t k q p)))

@@ -1,5 +1,6 @@
 -- The declared types of the tail, and those of the layers below that its fields come from.
 pub use Rattle.store.specs.declared.LogPair.{LogPair}
+pub use Rattle.store.specs.declared.Store.{Store}
 pub use Rattle.message.specs.declared.Message.{Message}
 pub use Rattle.participant.specs.declared.Participant.{Participant}
 pub use Rattle.coordinator.specs.declared.Coordinator.{Coordinator}

@@ -38,10 +38,14 @@ impl Tail {
         requires { ⌜ (tailInRange self ≡ true) × (inRange (self .n) s ≡ true) ⌝ }
         ensures { λ x. ⌜ x ≡ handed self (step (releaseOf self) s) ⌝ }
     {
-        let mut fields = fields_of(self.release());
-        let outcome = step(&mut fields, self.n, s);
+        let before = self.release();
+        let mut fields = fields_of(before);
+        let store = before.store;
+        let stepped = step(&mut fields, store, self.n, s);
+        let outcome = stepped.outcome;
+        let next = stepped.store;
         if moves(outcome) {
-            let state = Tail::of(release(&fields));
+            let state = Tail::of(release(&fields, next));
             Stepped {
                 number: 0,
                 state: state,

@@ -1,11 +1,10 @@
 -- `tail::Tail::stepped` meets its contract, case by case. Assumes nothing.
 use mathlib.Core.Path.{_≡_, sym, ap, _∙_}
-use native.Mathlib.Omega.{arith}
 use lib.ListN.{length-map}
-use Rattle.state.specs.Fields.{fields}
-use Rattle.tail.specs.Types.{Report}
 use Rattle.rules.specs.Report.{moves}
 use Rattle.rules.specs.Step.{step}
+use Rattle.state.specs.Fields.{fields}
+use Rattle.tail.specs.Types.{Release, Report}
 use Rattle.tail.specs.Tail.{releaseOf}
 use Rattle.tail.specs.Single.{handed}
 use Rattle.tail.proofs.SingleCases.{handed-moved, handed-idle}
@@ -16,19 +15,21 @@ use Rattle.tail.proofs.Tail.stepped.Statement.{statement}
 use Rattle.tail.proofs.Tail.stepped.Tie as tie
 
 step-requires : tie.Need-step-requires
-step-requires c κs = (n-in-range (c .before .before .before .args .self) (c .before .before .before .pre .0) .1, c .before .before .before .pre .1, can-count (c .before .before .before .args .self) (simp length-map at (c .before .before .before .good .0 .1 .1 .1 .1 .1 .1 .0 .1 .0 .1)) (simp length-map at (c .before .before .before .good .0 .1 .1 .1 .1 .1 .1 .1 .1 .0 .1 .0 .1)) (c .before .before .before .pre .0) _ (c .before .fields-of .ensures ∙ ap fields (c .before .before .release .ensures)))
+step-requires c κs = (n-in-range (c .before .before .before .before .args .self) (c .before .before .before .before .pre .0) .1, c .before .before .before .before .pre .1, can-count (c .before .before .before .before .args .self) (simp length-map at (c .before .before .before .before .good .0 .1 .1 .1 .1 .1 .1 .0 .1 .0 .1)) (simp length-map at (c .before .before .before .before .good .0 .1 .1 .1 .1 .1 .1 .1 .1 .0 .1 .0 .1)) (c .before .before .before .before .pre .0) _ (c .before .before .fields-of .ensures ∙ ap fields (c .before .before .before .release .ensures)))
 
 returns : tie.Need-returns
 returns c =
-    let report : Report = record { outcome = c .before .before .before .before .before .before .step .result; next = c .before .before .release2 .result } in
-    handed-moved (c .before .before .before .before .before .before .before .before .before .before .args .self) report (c .before .of .result) (c .report-byte .result) (sym (c .before .before .before .before .before .moves .ensures) ∙ c .before .before .before .before .if1 .taken) (c .before .of .ensures) (c .report-byte .ensures)
-    ∙ ap (handed (c .before .before .before .before .before .before .before .before .before .before .args .self)) (same-report (c .before .before .before .before .before .before .before .before .before .before .args .self) (simp length-map at (c .before .before .before .before .before .before .before .before .before .before .good .0 .1 .1 .1 .1 .1 .1 .0 .1 .0 .1)) (simp length-map at (c .before .before .before .before .before .before .before .before .before .before .good .0 .1 .1 .1 .1 .1 .1 .1 .1 .0 .1 .0 .1)) (c .before .before .before .before .before .before .before .before .before .before .pre .0) _ (c .before .before .before .before .before .before .before .before .fields-of .ensures ∙ ap fields (c .before .before .before .before .before .before .before .before .before .release .ensures)) (c .before .before .before .before .before .before .before .before .before .before .args .s) _ _ (c .before .before .before .before .before .before .step .ensures) _ (c .before .before .release2 .ensures))
+    let self = c .before .before .before .before .before .before .before .before .before .before .before .before .args .self in
+    let report : Report = record { outcome = c .before .before .before .before .before .before .before .step .result .outcome; next = c .before .before .release2 .result } in
+    handed-moved self report (c .before .of .result) (c .report-byte .result) (sym (c .before .before .before .before .before .moves .ensures) ∙ c .before .before .before .before .if1 .taken) (c .before .of .ensures) (c .report-byte .ensures)
+    ∙ ap (handed self) (same-report (c .before .before .before .before .before .before .before .before .before .before .before .before .args .self) (simp length-map at (c .before .before .before .before .before .before .before .before .before .before .before .before .good .0 .1 .1 .1 .1 .1 .1 .0 .1 .0 .1)) (simp length-map at (c .before .before .before .before .before .before .before .before .before .before .before .before .good .0 .1 .1 .1 .1 .1 .1 .1 .1 .0 .1 .0 .1)) (c .before .before .before .before .before .before .before .before .before .before .before .before .pre .0) _ (c .before .before .before .before .before .before .before .before .before .before .fields-of .ensures ∙ ap fields (c .before .before .before .before .before .before .before .before .before .before .before .release .ensures)) (c .before .before .before .before .before .before .before .before .before .before .before .before .args .s) _ _ _ _ (ap (λ (r : Release). r .store) (c .before .before .before .before .before .before .before .before .before .before .before .release .ensures)) (c .before .before .before .before .before .before .before .step .ensures) _ (c .before .before .release2 .ensures))
 
 returns-2 : tie.Need-returns-2
 returns-2 c =
-    let self = c .before .before .before .before .before .before .before .args .self in
+    let self = c .before .before .before .before .before .before .before .before .before .args .self in
     c .refused .ensures
-    ∙ handed-idle self (step (releaseOf self) (c .before .before .before .before .before .before .before .args .s)) (sym (ap moves (same-outcome (c .before .before .before .before .before .before .before .args .self) (simp length-map at (c .before .before .before .before .before .before .before .good .0 .1 .1 .1 .1 .1 .1 .0 .1 .0 .1)) (simp length-map at (c .before .before .before .before .before .before .before .good .0 .1 .1 .1 .1 .1 .1 .1 .1 .0 .1 .0 .1)) (c .before .before .before .before .before .before .before .pre .0) _ (c .before .before .before .before .before .fields-of .ensures ∙ ap fields (c .before .before .before .before .before .before .release .ensures)) (c .before .before .before .before .before .before .before .args .s) _ _ (c .before .before .before .step .ensures))) ∙ sym (c .before .before .moves .ensures) ∙ c .before .if1 .left)
+    ∙ handed-idle self (step (releaseOf self) (c .before .before .before .before .before .before .before .before .before .args .s))
+    (sym (ap moves (same-outcome (c .before .before .before .before .before .before .before .before .before .args .self) (simp length-map at (c .before .before .before .before .before .before .before .before .before .good .0 .1 .1 .1 .1 .1 .1 .0 .1 .0 .1)) (simp length-map at (c .before .before .before .before .before .before .before .before .before .good .0 .1 .1 .1 .1 .1 .1 .1 .1 .0 .1 .0 .1)) (c .before .before .before .before .before .before .before .before .before .pre .0) _ (c .before .before .before .before .before .before .before .fields-of .ensures ∙ ap fields (c .before .before .before .before .before .before .before .before .release .ensures)) (c .before .before .before .before .before .before .before .before .before .args .s) _ _ _ _ (ap (λ (r : Release). r .store) (c .before .before .before .before .before .before .before .before .release .ensures)) (c .before .before .before .before .step .ensures))) ∙ sym (c .before .before .moves .ensures) ∙ c .before .if1 .left)
 
 pub stepped-spec : {M : Type 1} → statement M
 stepped-spec =
