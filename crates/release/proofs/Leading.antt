@@ -53,18 +53,20 @@ masks-all n m l r h q e = ap (λ x. withMaskIn m (full n) x) e ∙ ap (λ x. wit
 pub participant-goes : (i : ℕ) (p : Participant) (s : Sent) (l k : List ℕ) → i < places → Puts (reply s i) l k
     → Leads (participantTo i p s) l (learnt (known (participantIn l i)) (known p)) (withParticipantIn i p k)
 unfolding participantTo
-participant-goes i p s l k g u r h e =
-    (ap (λ x. learnt (known (participantIn x i)) (known p)) e ∙ ap (λ x. learnt (known x) (known p)) (participant-in r h i g),
-    ap (withParticipantIn i p) (u r h e) ∙ with-participant (reply s i r) (reply-places s i r h) i p g,
-    reply-store s i r)
+participant-goes i p s l k g u r h e = (
+  ap (λ x. learnt (known (participantIn x i)) (known p)) e ∙ ap (λ x. learnt (known x) (known p)) (participant-in r h i g),
+  ap (withParticipantIn i p) (u r h e) ∙ with-participant (reply s i r) (reply-places s i r h) i p g,
+  reply-store s i r,
+)
 
 pub coordinator-goes : (n : ℕ) (c : Coordinator) (s : Sent) (l k : List ℕ) → PutsUnder n (broadcast s) l k
     → LeadsUnder n (coordinatorTo c s) l (learnt (coordinatorKnown (coordinatorIn l)) (coordinatorKnown c)) (withCoordinatorIn c k)
 unfolding coordinatorTo
-coordinator-goes n c s l k u r h q e =
-    (ap (λ x. learnt (coordinatorKnown (coordinatorIn x)) (coordinatorKnown c)) e ∙ ap (λ x. learnt (coordinatorKnown x) (coordinatorKnown c)) (coordinator-in r h),
-    ap (withCoordinatorIn c) (u r h q e) ∙ with-coordinator (broadcast s r) (broadcast-places s r h) c,
-    broadcast-store s r)
+coordinator-goes n c s l k u r h q e = (
+  ap (λ x. learnt (coordinatorKnown (coordinatorIn x)) (coordinatorKnown c)) e ∙ ap (λ x. learnt (coordinatorKnown x) (coordinatorKnown c)) (coordinator-in r h),
+  ap (withCoordinatorIn c) (u r h q e) ∙ with-coordinator (broadcast s r) (broadcast-places s r h) c,
+  broadcast-store s r,
+)
 
 -- what takes no n takes any; what leaves the store as it was takes any
 

@@ -123,11 +123,7 @@ fn coordinator_to(fields: &mut [u32; FIELDS], n: u32, c: Coordinator, s: Sent) -
     learnt(coordinator_known(old), coordinator_known(c))
 }
 
-fn coordinator_goes(
-    fields: &mut [u32; FIELDS],
-    n: u32,
-    t: coordinator::Transition,
-) -> Outcome
+fn coordinator_goes(fields: &mut [u32; FIELDS], n: u32, t: coordinator::Transition) -> Outcome
     requires { ⌜ n ≤ places ⌝ }
     ensures { λ o. ⌜ LeadsUnder n (coordinatorGoes t) (now (fields .entry)) o (now (fields .exit)) ⌝ }
 {
@@ -239,7 +235,14 @@ fn participant_performed(
     }
 }
 
-fn participant_calls(fields: &mut [u32; FIELDS], store: Store, n: u32, heard: bool, i: u32, j: u32) -> Stepped
+fn participant_calls(
+    fields: &mut [u32; FIELDS],
+    store: Store,
+    n: u32,
+    heard: bool,
+    i: u32,
+    j: u32,
+) -> Stepped
     requires { ⌜ (n ≤ places) × (i < places) × (j < places) × CanCount (now fields) ⌝ }
     ensures { λ x. ⌜ Steps n (participantCalls heard i j) (now (fields .entry)) store (x .outcome) (now (fields .exit)) (x .store) ⌝ }
 {
@@ -297,7 +300,13 @@ fn coordinator_performed(
     }
 }
 
-fn coordinator_calls(fields: &mut [u32; FIELDS], store: Store, n: u32, heard: bool, j: u32) -> Stepped
+fn coordinator_calls(
+    fields: &mut [u32; FIELDS],
+    store: Store,
+    n: u32,
+    heard: bool,
+    j: u32,
+) -> Stepped
     requires { ⌜ (n ≤ places) × (j < places) × CanCount (now fields) ⌝ }
     ensures { λ x. ⌜ Steps n (coordinatorCalls heard j) (now (fields .entry)) store (x .outcome) (now (fields .exit)) (x .store) ⌝ }
 {

@@ -1,3 +1,4 @@
+-- `release::step::coordinator_answered` meets its contract, case by case. Assumes nothing.
 use mathlib.Core.Path.{_≡_, refl, sym, _∙_}
 use native.Mathlib.Omega.{arith}
 use Rattle.rules.specs.Step.{moved}
@@ -5,69 +6,19 @@ use Rattle.release.proofs.Leading.{idles, after-call}
 use borrow.Author.Needs.{needs}
 use Rattle.release.proofs.step.coordinator_answered.Statement.{statement}
 use Rattle.release.proofs.step.coordinator_answered.Tie as tie
-use Rattle.release.proofs.step.coordinator_answered.Reads as reads
-use Rattle.release.proofs.step.coordinator_answered.Lts as lts
-use Rattle.release.proofs.step.Stepped.new.Reads as new-reads
-use Rattle.release.proofs.step.coordinator_to.Reads as coordinator-to-reads
-use Rattle.state.proofs.count_call.Reads as count-call-reads
-use Rattle.store.proofs.Store.with_log.Reads as with-log-reads
-
--- src/step.rt:265:57
-enum-told : tie.Need-enum-told
-enum-told c = search needs
-
--- src/step.rt:265:44
-new-requires : tie.Need-new-requires
-new-requires c κs = search needs
-
--- src/step.rt:266:37
-enum-known-t : tie.Need-enum-known-t
-enum-known-t c = search needs
-
--- src/step.rt:268:13
-count-call-requires : tie.Need-count-call-requires
-count-call-requires c κs = (omega arith, c .before .before .before .before .before .pre .2 0 (omega arith))
-
--- src/step.rt:269:17
-with-log-requires : tie.Need-with-log-requires
-with-log-requires c κs = search needs
-
--- src/step.rt:271:30
-coordinator-to-requires : tie.Need-coordinator-to-requires
-coordinator-to-requires c κs = search needs
-
--- src/step.rt:271:17
-new-requires-2 : tie.Need-new-requires-2
-new-requires-2 c κs = search needs
-
--- src/step.rt:273:17
-new-requires-3 : tie.Need-new-requires-3
-new-requires-3 c κs = search needs
-
--- src/step.rt:252:1
-returns : tie.Need-returns
-returns c = rw (c .before .enum-told .given .1, c .new .ensures) (idles _ _ _)
-
--- src/step.rt:252:1
-returns-2 : tie.Need-returns-2
-returns-2 c = rw (c .before .before .before .before .before .before .before .before .before .t .given .1, c .before .before .before .if1 .taken, c .new2 .ensures, c .before .before .before .before .with-log .ensures) (after-call _ _ 0 _ _ _ _ _ _ (omega arith) (rw (c .before .before .before .before .before .count-call .ensures) at (c .before .coordinator-to .ensures)))
-
--- src/step.rt:252:1
-returns-3 : tie.Need-returns-3
-returns-3 c = rw (c .before .before .before .before .before .before .before .t .given .1, c .before .if1 .left, c .new3 .ensures, c .before .before .with-log .ensures) (after-call _ moved 0 _ _ _ _ _ _ (omega arith) (rw (c .before .before .before .count-call .ensures) (λ r h q e. (refl, e, refl))))
 
 pub coordinator-answered-spec : {M : Type 1} → statement M
 coordinator-answered-spec =
     tie.close
     (tie.spec
-    enum-told
-    new-requires
-    enum-known-t
-    count-call-requires
-    with-log-requires
-    coordinator-to-requires
-    new-requires-2
-    new-requires-3
-    returns
-    returns-2
-    returns-3)
+    (λ c. search needs)
+    (λ c κs. search needs)
+    (λ c. search needs)
+    (λ c κs. (omega arith, c .before .before .before .before .before .pre .2 0 (omega arith)))
+    (λ c κs. search needs)
+    (λ c κs. search needs)
+    (λ c κs. search needs)
+    (λ c κs. search needs)
+    (λ c. rw (c .before .enum-told .given .1, c .new .ensures) (idles _ _ _))
+    (λ c. rw (c .before .before .before .before .before .before .before .before .before .t .given .1, c .before .before .before .if1 .taken, c .new2 .ensures, c .before .before .before .before .with-log .ensures) (after-call _ _ 0 _ _ _ _ _ _ (omega arith) (rw (c .before .before .before .before .before .count-call .ensures) at (c .before .coordinator-to .ensures))))
+    (λ c. rw (c .before .before .before .before .before .before .before .t .given .1, c .before .if1 .left, c .new3 .ensures, c .before .before .with-log .ensures) (after-call _ moved 0 _ _ _ _ _ _ (omega arith) (rw (c .before .before .before .count-call .ensures) (λ r h q e. (refl, e, refl))))))

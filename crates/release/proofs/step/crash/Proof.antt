@@ -1,3 +1,4 @@
+-- `release::step::crash` meets its contract, case by case. Assumes nothing.
 use Prim.Native.Nat.{_-_}
 use native.Mathlib.Omega.{arith}
 use lib.Dec.{lit<}
@@ -9,66 +10,18 @@ use Rattle.release.proofs.Leading.{under, reads, numbered}
 use borrow.Author.Needs.{needs}
 use Rattle.release.proofs.step.crash.Statement.{statement}
 use Rattle.release.proofs.step.crash.Tie as tie
-use Rattle.release.proofs.step.crash.Reads as reads
-use Rattle.release.proofs.step.crash.Lts as lts
-use Rattle.coordinator.proofs.Coordinator.crash.Reads as Coordinator-crash-reads
-use Rattle.participant.proofs.Participant.crash.Reads as Participant-crash-reads
-use Rattle.release.proofs.step.coordinator_goes.Reads as coordinator-goes-reads
-use Rattle.release.proofs.step.participant_goes.Reads as participant-goes-reads
-use Rattle.state.proofs.coordinator.Reads as coordinator-reads
-use Rattle.state.proofs.participant_at.Reads as participant-at-reads
-
--- src/step.rt:327:13
-coordinator-requires : tie.Need-coordinator-requires
-coordinator-requires c κs = search needs
-
--- src/step.rt:328:37
-crash-requires : tie.Need-crash-requires
-crash-requires c κs = search needs
-
--- src/step.rt:328:9
-coordinator-goes-requires : tie.Need-coordinator-goes-requires
-coordinator-goes-requires c κs = search needs
-
--- src/step.rt:330:42
-sub-participant-at : tie.Need-sub-participant-at
-sub-participant-at c = search needs
-
--- src/step.rt:330:13
-participant-at-requires : tie.Need-participant-at-requires
-participant-at-requires c κs = search needs
-
--- src/step.rt:331:34
-sub-participant-goes : tie.Need-sub-participant-goes
-sub-participant-goes c = search needs
-
--- src/step.rt:331:41
-crash-requires-2 : tie.Need-crash-requires-2
-crash-requires-2 c κs = search needs
-
--- src/step.rt:331:9
-participant-goes-requires : tie.Need-participant-goes-requires
-participant-goes-requires c κs = search needs
-
--- src/step.rt:322:1
-returns : tie.Need-returns
-returns c = rw (c .before .before .before .before .before .if1 .taken) (reads _ 0 _ _ _ (lit< tt) (λ n v d p. coordinatorGoes (Coordinator.onCrash d)) (rw (c .before .crash .ensures, c .before .before .before .coordinator .ensures) at (c .coordinator-goes .ensures)))
-
--- src/step.rt:322:1
-returns-2 : tie.Need-returns-2
-returns-2 c = numbered _ (λ p r. step r (Step.Crash p)) _ _ _ _ (omega arith) (reads _ (c .before .before .before .before .before .before .args .p - 1) _ _ _ (omega (arith, c .before .before .before .before .before .before .pre .1)) (λ n v d p. participantGoes (c .before .before .before .before .before .before .args .p - 1) (Participant.onCrash p)) (under _ _ _ _ _ (rw (c .before .crash2 .ensures, c .before .before .before .participant-at .ensures) at (c .participant-goes .ensures))))
 
 pub crash-spec : {M : Type 1} → statement M
 crash-spec =
     tie.close
     (tie.spec
-    coordinator-requires
-    crash-requires
-    coordinator-goes-requires
-    sub-participant-at
-    participant-at-requires
-    sub-participant-goes
-    crash-requires-2
-    participant-goes-requires
-    returns
-    returns-2)
+    (λ c κs. search needs)
+    (λ c κs. search needs)
+    (λ c κs. search needs)
+    (λ c. search needs)
+    (λ c κs. search needs)
+    (λ c. search needs)
+    (λ c κs. search needs)
+    (λ c κs. search needs)
+    (λ c. rw (c .before .before .before .before .before .if1 .taken) (reads _ 0 _ _ _ (lit< tt) (λ n v d p. coordinatorGoes (Coordinator.onCrash d)) (rw (c .before .crash .ensures, c .before .before .before .coordinator .ensures) at (c .coordinator-goes .ensures))))
+    (λ c. let start = c .before .before .before .before .before .before in numbered _ (λ p r. step r (Step.Crash p)) _ _ _ _ (omega arith) (reads _ (start .args .p - 1) _ _ _ (omega (arith, start .pre .1)) (λ n v d p. participantGoes (start .args .p - 1) (Participant.onCrash p)) (under _ _ _ _ _ (rw (c .before .crash2 .ensures, c .before .before .before .participant-at .ensures) at (c .participant-goes .ensures))))))
