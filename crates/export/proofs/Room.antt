@@ -19,7 +19,7 @@ use Rattle.layout.specs.Low.{lowByte, lowFields, lowTail}
 use Rattle.layout.proofs.Laws.{low-length}
 use Rattle.text.proofs.Putting.{each-length}
 use Rattle.export.specs.Types.{Tail}
-use Rattle.export.specs.State.{messageAt, fieldsAt, countAt, tailAt}
+use Rattle.layout.specs.Read.{messageAt, fieldsAt, countAt, tailAt}
 
 -- as many masks, participants and counts as a tail has
 record Whole (t : Tail) : Type 0 where

@@ -4,6 +4,8 @@ pub mod state;
 use listing::list;
 use marker::run;
 use number::OUT_OF_RANGE;
+use number::REFUSED_BY_RULE;
+use number::WRONG_RECORD;
 use schedule::Header;
 use schedule::reader::Before;
 use schedule::reader::Read;
@@ -23,10 +25,6 @@ ghost use Rattle.writer.specs.Writer.{writtenHands, writerAnswers, writerLeaves
 ghost use Rattle.marker.specs.Run.{runAnswers, runLeaves};
 ghost use Rattle.listing.specs.Listing.{listAnswers, listLeaves};
 ghost use Rattle.export.specs.Packed.{packed, fourBytes, readPacked, entryPacked, beforeOf, pairOf};
-
-const WRONG_RECORD: u32 = 8;
-
-const REFUSED_BY_RULE: u32 = 9;
 
 // A refusal's number or 0 in the upper 32 bits, what is handed over with it in the lower ones.
 fn pack(number: u32, value: usize) -> u64

@@ -1,3 +1,4 @@
 pub mod Types
 pub mod Tail
 pub mod Low
+pub mod Read

@@ -1,4 +1,6 @@
 // The layout of the tail. Each function puts its bytes at a place that has room for them, and answers the place after them.
+pub mod read;
+
 use rules::PARTIES;
 use rules::TYPES;
 use store::LOGS;

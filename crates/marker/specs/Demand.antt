@@ -3,7 +3,7 @@
 use mathlib.Core.Path.{_≡_}
 use mathlib.Core.Bool.{true}
 use mathlib.Core.List.{List, _++_}
-use Prim.Native.Nat.{ℕ, suc, _+_, _-_, _*_, _≤_, _<_}
+use Prim.Native.Nat.{ℕ, suc, _+_, _-_, _≤_, _<_}
 use lib.ListN.{length, getD, take, drop}
 use Rattle.mask.specs.Mask.{full}
 use Rattle.store.specs.Log.{places}
@@ -17,6 +17,7 @@ use Rattle.rules.specs.Demand.{EveryYes, SomeAbort, Up, AllUndisturbed, Decides
 use Rattle.passes.specs.Pass.{freshOf, stepBytes}
 use Rattle.marker.specs.Types.{Step, Header, Written, Outcome}
 use Rattle.layout.specs.Tail.{tailLength}
+use Rattle.layout.specs.Read.{countAt}
 use Rattle.marker.specs.Run.{runAnswers, runLeaves}
 
 -- A decision is reported by a step whose byte says commit or abort
@@ -39,11 +40,7 @@ pub record BytesHold (h : Header) (steps : List Step) (bytes : List ℕ) : Type 
   -- with all votes yes and no timeout or restart, no abort is ever reported
   pub no-abort : h .votes ≡ full (h .n) → AllCalm (freshOf h) steps → (i : ℕ) → i < length bytes → Says Outcome.Abort (getD bytes i 0) → ⊥
 
--- the two bytes of party p's count, low first
-abbrev pub countAt : List ℕ → ℕ → ℕ
-countAt tail p = getD tail (41 + 2 * p) 0 + 256 * getD tail (42 + 2 * p) 0
-
--- `tail` are the report's last 59 bytes: their counts are the due store calls that the rules' definition counts over the schedule
+-- `tail` are the report's last 59 bytes: their counts, of two bytes, low first, are the due store calls that the rules' definition counts over the schedule
 abbrev pub CountsHold : Header → List Step → List ℕ → Type 0
 CountsHold h steps tail = (p : ℕ) → p ≤ places → countAt tail p ≡ callsMade p (freshOf h) steps
 

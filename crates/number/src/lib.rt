@@ -12,3 +12,7 @@ pub const OUT_OF_RANGE: u32 = 5;
 pub const TOO_SHORT: u32 = 6;
 
 pub const NOT_DUE: u32 = 7;
+
+pub const WRONG_RECORD: u32 = 8;
+
+pub const REFUSED_BY_RULE: u32 = 9;

@@ -39,13 +39,13 @@ abbrev pub messagesFrom : ℕ
 messagesFrom = 4
 
 abbrev pub statesFrom : ℕ
-statesFrom = 9
+statesFrom = messagesFrom + types
 
 abbrev pub heardFrom : ℕ
-heardFrom = 17
+heardFrom = statesFrom + places
 
 abbrev pub countsFrom : ℕ
-countsFrom = 25
+countsFrom = heardFrom + places
 
 -- a release has a place for each participant, type of message and party
 pub record HasPlaces (r : Release) : Type 0 where
@@ -107,10 +107,12 @@ releaseIn l s =
       calls = tabulate (suc places) (countIn l);
     }
 
--- a whole piece put: the numbers after are those of the release so changed, whatever release those before are of
+-- a change of a release made on its numbers: those after are the changed release's, whatever release those before are of
 
 abbrev pub Puts : (Release → Release) → List ℕ → List ℕ → Type 0
 Puts f before after = (r : Release) → HasPlaces r → before ≡ fields r → after ≡ fields (f r)
+
+-- a whole piece in the place of another
 
 abbrev pub withMessages : List ℕ → Release → Release
 withMessages l r =

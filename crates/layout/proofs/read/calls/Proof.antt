@@ -1,4 +1,4 @@
--- `export::state::calls` meets its contract: the loop fills the table, place by place. Assumes nothing.
+-- `layout::read::calls` meets its contract: the loop fills the table, place by place. Assumes nothing.
 use mathlib.Core.Path.{_≡_, refl}
 use Prim.Native.Nat.{suc, _-_, _≤_}
 use native.Mathlib.Omega.{arith}
@@ -6,15 +6,15 @@ use lib.ListN.{length}
 use borrow.Author.Needs.{needs}
 use Rattle.store.specs.Log.{places}
 use Rattle.number.proofs.Table.{upTo, upTo-next, upTo-done}
-use Rattle.export.specs.State.{countAt}
-use Rattle.export.proofs.state.calls.Statement.{statement}
-use Rattle.export.proofs.state.calls.Tie as tie
+use Rattle.layout.specs.Read.{countAt}
+use Rattle.layout.proofs.read.calls.Statement.{statement}
+use Rattle.layout.proofs.read.calls.Tie as tie
 
 abbrev Inv-loop : tie.InvT-loop
-Inv-loop state l₀ p₀ l p = (p ≤ suc places) × (length l₀ ≡ suc places) × (l ≡ upTo p (countAt state) l₀)
+Inv-loop bytes l₀ p₀ l p = (p ≤ suc places) × (length l₀ ≡ suc places) × (l ≡ upTo p (countAt bytes) l₀)
 
 abbrev μ-loop : tie.MeasureT-loop
-μ-loop state l₀ p₀ l p = suc places - p
+μ-loop bytes l₀ p₀ l p = suc places - p
 
 pub calls-spec : {M : Type 1} → statement M
 calls-spec =

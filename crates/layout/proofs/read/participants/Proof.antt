@@ -1,4 +1,4 @@
--- `export::state::participants` meets its contract: the loop fills the table, place by place. Assumes nothing.
+-- `layout::read::participants` meets its contract: the loop fills the table, place by place. Assumes nothing.
 use mathlib.Core.Path.{_≡_, refl}
 use Prim.Native.Nat.{_-_, _≤_}
 use native.Mathlib.Omega.{arith}
@@ -6,15 +6,15 @@ use lib.ListN.{length}
 use borrow.Author.Needs.{needs}
 use Rattle.store.specs.Log.{places}
 use Rattle.number.proofs.Table.{upTo, upTo-next, upTo-done}
-use Rattle.export.specs.State.{fieldsAt}
-use Rattle.export.proofs.state.participants.Statement.{statement}
-use Rattle.export.proofs.state.participants.Tie as tie
+use Rattle.layout.specs.Read.{fieldsAt}
+use Rattle.layout.proofs.read.participants.Statement.{statement}
+use Rattle.layout.proofs.read.participants.Tie as tie
 
 abbrev Inv-loop : tie.InvT-loop
-Inv-loop state l₀ i₀ l i = (i ≤ places) × (length l₀ ≡ places) × (l ≡ upTo i (fieldsAt state) l₀)
+Inv-loop bytes l₀ i₀ l i = (i ≤ places) × (length l₀ ≡ places) × (l ≡ upTo i (fieldsAt bytes) l₀)
 
 abbrev μ-loop : tie.MeasureT-loop
-μ-loop state l₀ i₀ l i = places - i
+μ-loop bytes l₀ i₀ l i = places - i
 
 pub participants-spec : {M : Type 1} → statement M
 participants-spec =

@@ -1,4 +1,4 @@
--- `export::state::messages` meets its contract: the loop fills the table, place by place. Assumes nothing.
+-- `layout::read::messages` meets its contract: the loop fills the table, place by place. Assumes nothing.
 use mathlib.Core.Path.{_≡_, refl}
 use Prim.Native.Nat.{_-_, _≤_}
 use native.Mathlib.Omega.{arith}
@@ -6,15 +6,15 @@ use lib.ListN.{length}
 use borrow.Author.Needs.{needs}
 use Rattle.rules.specs.State.{types}
 use Rattle.number.proofs.Table.{upTo, upTo-next, upTo-done}
-use Rattle.export.specs.State.{messageAt}
-use Rattle.export.proofs.state.messages.Statement.{statement}
-use Rattle.export.proofs.state.messages.Tie as tie
+use Rattle.layout.specs.Read.{messageAt}
+use Rattle.layout.proofs.read.messages.Statement.{statement}
+use Rattle.layout.proofs.read.messages.Tie as tie
 
 abbrev Inv-loop : tie.InvT-loop
-Inv-loop state l₀ i₀ l i = (i ≤ types) × (length l₀ ≡ types) × (l ≡ upTo i (messageAt state) l₀)
+Inv-loop bytes l₀ i₀ l i = (i ≤ types) × (length l₀ ≡ types) × (l ≡ upTo i (messageAt bytes) l₀)
 
 abbrev μ-loop : tie.MeasureT-loop
-μ-loop state l₀ i₀ l i = types - i
+μ-loop bytes l₀ i₀ l i = types - i
 
 pub messages-spec : {M : Type 1} → statement M
 messages-spec =

@@ -1,7 +1,7 @@
--- `export::state::fields` meets its contract, case by case. Assumes nothing.
+-- `layout::read::fields` meets its contract, case by case. Assumes nothing.
 use borrow.Author.Needs.{needs}
-use Rattle.export.proofs.state.fields.Statement.{statement}
-use Rattle.export.proofs.state.fields.Tie as tie
+use Rattle.layout.proofs.read.fields.Statement.{statement}
+use Rattle.layout.proofs.read.fields.Tie as tie
 
 pub fields-spec : {M : Type 1} → statement M
 fields-spec =

@@ -1,10 +1,10 @@
--- `export::state::tail` meets its contract, case by case. Assumes nothing.
+-- `layout::read::read_tail` meets its contract, case by case. Assumes nothing.
 use borrow.Author.Needs.{needs}
-use Rattle.export.proofs.state.tail.Statement.{statement}
-use Rattle.export.proofs.state.tail.Tie as tie
+use Rattle.layout.proofs.read.read_tail.Statement.{statement}
+use Rattle.layout.proofs.read.read_tail.Tie as tie
 
-pub tail-spec : {M : Type 1} → statement M
-tail-spec =
+pub read-tail-spec : {M : Type 1} → statement M
+read-tail-spec =
     tie.close
     (tie.spec
     (λ c κs. search needs)
