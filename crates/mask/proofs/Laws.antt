@@ -97,11 +97,6 @@ pub insert-add : (i m : ℕ) → bit i m ≡ 0 → insert i m ≡ m + 2 ^ i
 insert-add zero m e = omega arith
 insert-add (suc i) m e = omega (arith, pow-suc 2 i, insert-add i (m / 2) e)
 
--- nobody is removed where nobody is
-pub remove-absent : (i m : ℕ) → has i m ≡ false → remove i m ≡ m
-remove-absent zero m q = omega (arith, eqb-false (m % 2) 1 q)
-remove-absent (suc i) m q = rw (remove-absent i (m / 2) q) (omega arith)
-
 pub remove-sub : (i m : ℕ) → bit i m ≡ 1 → remove i m + 2 ^ i ≡ m
 remove-sub zero m e = omega arith
 remove-sub (suc i) m e = omega (arith, pow-suc 2 i, remove-sub i (m / 2) e)

@@ -1,6 +1,6 @@
 // One step of a release: `fields` are its numbers, and a step changes those of the parts that it names, in place; the store goes in by value and
 // comes back. A contract says what this is for the release that they are of. `i` and `j` are places, which count from 0; `p` is the number of a
-// party; `n` is the release's own.
+// party; `n` is the release's own; `heard` says whether the answer of a call is heard.
 use super::outcome::coordinator_known;
 use super::outcome::known;
 use super::outcome::learnt;
