@@ -20,7 +20,7 @@ use Rattle.rules.specs.Step.{step}
 use Rattle.rules.specs.Run.{after}
 use Rattle.state.specs.Fields.{fields, HasPlaces, releaseIn}
 use Rattle.state.proofs.Parts.{count-in}
-use Rattle.state.proofs.Filling.{fresh-places, release-in}
+use Rattle.state.proofs.Filling.{fresh-places, step-places, release-in}
 use Rattle.release.specs.Leads.{Steps, CanCount}
 use Rattle.rules.proofs.Agreement.{replicate-all}
 use Rattle.rules.proofs.Causes.{cause}
@@ -105,7 +105,6 @@ module _ {s : List ℕ} {h : Header} {start count : ℕ} {out₀ out : List ℕ}
         let next : Release = step r (recordStep x) .next in
         let byte : ℕ = outcomeNumber (step r (recordStep x) .outcome) in
         let rest : List Step = stepsOf (readingFrom s h (at + size)) in
-        let same = caused-room r (cause r (recordStep x)) in
         record {
           within = first .within;
           few = omega (arith, g .few, first .some);
@@ -116,13 +115,8 @@ module _ {s : List ℕ} {h : Header} {start count : ℕ} {out₀ out : List ℕ}
           release = next;
           numbers = led .1;
           stored = led .2;
-          has-places =
-              record {
-                sites = same .sites ∙ g .has-places .sites;
-                messages = same .messages ∙ g .has-places .messages;
-                calls = same .calls ∙ g .has-places .calls;
-              };
-          same-n = same .same-n ∙ g .same-n;
+          has-places = step-places r (recordStep x) (g .has-places);
+          same-n = caused-room r (cause r (recordStep x)) .same-n ∙ g .same-n;
           calls = λ p. omega (arith, one-call-more r (recordStep x) p, g .calls p);
           left = sym (count-more i (recordStep x) (readingFrom s h (at + size))) ∙ here;
           ends = ap (after r) (sym steps) ∙ g .ends;

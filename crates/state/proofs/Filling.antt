@@ -1,4 +1,4 @@
--- A loop that puts a whole piece, one number or part after the other. Assumes nothing.
+-- A release put into numbers piece by piece, and read back. Assumes nothing.
 use mathlib.Core.Path.{_≡_, refl, sym, ap, _∙_}
 use mathlib.Core.List.{List, [], _∷_, flatten}
 use Prim.Native.Nat.{ℕ, zero, suc, _+_, _%_, _≤_, _<_}
@@ -8,8 +8,10 @@ use Rattle.number.specs.Table.{tabulate}
 use Rattle.number.proofs.Table.{upTo, upTo-next, upTo-done, tabulate-list}
 use Rattle.store.specs.Log.{places}
 use Rattle.rules.specs.State.{types, waiting, fresh}
-use Rattle.rules.specs.Step.{withCoordinator}
-use Rattle.state.specs.Types.{Participant, Site, Release}
+use Rattle.rules.specs.Step.{withCoordinator, step}
+use Rattle.rules.proofs.Causes.{cause}
+use Rattle.rules.proofs.Room.{caused-room}
+use Rattle.state.specs.Types.{Participant, Site, Step, Release}
 use Rattle.state.specs.Fields.{fields, messagesFrom, countsFrom, HasPlaces, withCoordinatorIn, withParticipantIn, messageIn, siteIn, countIn, releaseIn, Puts, withMessages, withSites, withCalls}
 use Rattle.state.proofs.Parts.{coordinator-in, message-in, participant-in, count-in, with-coordinator, with-message, with-participant, with-count}
 
@@ -18,7 +20,7 @@ upTo-size zero f l = refl
 upTo-size (suc i) f [] = refl
 upTo-size (suc i) f (x ∷ l) = ap suc (upTo-size i (λ j. f (suc j)) l)
 
--- the release with the first i of a piece changed
+-- a loop that puts a piece: the release with the first i of it changed
 abbrev pub UpTo : {A : Type 0} → (List A → Release → Release) → (Release → List A) → (ℕ → A) → ℕ → List ℕ → List ℕ → Type 0
 UpTo with piece f i before now = Puts (λ r. with (upTo i f (piece r)) r) before now
 
@@ -51,6 +53,12 @@ module _ (before now : List ℕ) where
 
 pub fresh-places : (n votes : ℕ) → HasPlaces (fresh places n votes)
 fresh-places n votes = record { sites = refl; messages = refl; calls = refl }
+
+-- a step leaves the places as they are
+pub step-places : (r : Release) (s : Step) → HasPlaces r → HasPlaces (step r s .next)
+step-places r s h =
+    let same = caused-room r (cause r s) in
+    record { sites = same .sites ∙ h .sites; messages = same .messages ∙ h .messages; calls = same .calls ∙ h .calls }
 
 whole : {A : Type 0} (n : ℕ) (l : List A) (d : A) → length l ≡ n → tabulate n (λ i. getD l i d) ≡ l
 whole n l d g = tabulate-list n (λ i. getD l i d) l d g (λ i _. refl)

@@ -8,12 +8,10 @@ use lib.ListN.{length}
 use Rattle.number.proofs.Table.{length-tabulate}
 use Rattle.store.specs.Log.{places}
 use Rattle.rules.specs.Step.{step}
-use Rattle.rules.proofs.Causes.{cause}
 use Rattle.rules.proofs.Counts.{one-call-more}
-use Rattle.rules.proofs.Room.{caused-room}
 use Rattle.state.specs.Fields.{fields, HasPlaces, releaseIn}
 use Rattle.state.proofs.Parts.{count-in}
-use Rattle.state.proofs.Filling.{release-in}
+use Rattle.state.proofs.Filling.{step-places, release-in}
 use Rattle.release.specs.Leads.{Steps, CanCount}
 use Rattle.tail.specs.Tail.{releaseOf, tailInRange}
 use Rattle.tail.specs.Types.{Tail, Step, Store, Release, Report, Outcome}
@@ -33,16 +31,7 @@ module _ (t : Tail) (m : length (t .messages) ≡ 5) (k : length (t .calls) ≡ 
     pub same-outcome : o ≡ step (releaseOf t) s .outcome
     same-outcome = led .0
 
-    next-places : HasPlaces (step (releaseOf t) s .next)
-    next-places =
-        let same = caused-room (releaseOf t) (cause (releaseOf t) s) in
-        record {
-          sites = same .sites ∙ tail-places .sites;
-          messages = same .messages ∙ tail-places .messages;
-          calls = same .calls ∙ tail-places .calls;
-        }
-
     pub same-report : (x : Release) → x ≡ releaseIn after next → _≡_ {A = Report} (record { outcome = o; next = x }) (step (releaseOf t) s)
     same-report x y =
         ap₂ (λ (x : Outcome) (r : Release). record { outcome = x; next = r }) same-outcome
-        (y ∙ ap₂ releaseIn (led .1) (led .2) ∙ release-in (step (releaseOf t) s .next) next-places (λ p. omega (arith, one-call-more (releaseOf t) s p, countable t k q p)))
+        (y ∙ ap₂ releaseIn (led .1) (led .2) ∙ release-in (step (releaseOf t) s .next) (step-places (releaseOf t) s tail-places) (λ p. omega (arith, one-call-more (releaseOf t) s p, countable t k q p)))
