@@ -80,12 +80,12 @@ pub idles : (n : ℕ) (l : List ℕ) (s : Store) → Steps n idle l s Outcome.Id
 idles n l s r h q e t = (refl, e, t)
 
 -- a due call is counted, its log is written, and what follows comes after that
-pub after-call : (n : ℕ) (f : Release → Report) (p j : ℕ) (x : LogPair) (l k : List ℕ) (o : Outcome) (s : Store) → p < suc places
-    → LeadsUnder n f (countedIn p l) o k → Steps n (λ r. f (called p j x r)) l s o k (record { logs = set (s .logs) j x })
+pub after-call : (n : ℕ) (f : Release → Report) (p j : ℕ) (x : LogPair) (l k : List ℕ) (o : Outcome) (s t : Store) → p < suc places
+    → t ≡ record { logs = set (s .logs) j x } → LeadsUnder n f (countedIn p l) o k → Steps n (λ r. f (called p j x r)) l s o k t
 unfolding fields
-after-call n f p j x l k o s g u r h q e t =
+after-call n f p j x l k o s t g w u r h q e v =
     let y = u (called p j x r) (called-places p j x r h) q (ap (countedIn p) e ∙ counts-one r h p g) in
-    (y .0, y .1, ap (λ (z : Store). record { logs = set (z .logs) j x }) t ∙ y .2)
+    (y .0, y .1, w ∙ ap (λ (z : Store). record { logs = set (z .logs) j x }) v ∙ y .2)
 
 -- a message is taken out of flight, and what follows comes after that
 pub after-mask : (n : ℕ) (f : Release → Report) (g : ℕ → ℕ) (t : Message) (l k m : List ℕ) (o : Outcome) → Puts (λ r. withMask t (g (maskOf r t)) r) l k

@@ -20,5 +20,5 @@ coordinator-answered-spec =
     (λ c κs. search needs)
     (λ c κs. search needs)
     (λ c. rw (c .before .enum-told .given .1, c .new .ensures) (idles _ _ _))
-    (λ c. rw (c .before .before .before .before .before .before .before .before .before .t .given .1, c .before .before .before .if1 .taken, c .new2 .ensures, c .before .before .before .before .with-log .ensures) (after-call _ _ 0 _ _ _ _ _ _ (omega arith) (rw (c .before .before .before .before .before .count-call .ensures) at (c .before .coordinator-to .ensures))))
-    (λ c. rw (c .before .before .before .before .before .before .before .t .given .1, c .before .if1 .left, c .new3 .ensures, c .before .before .with-log .ensures) (after-call _ moved 0 _ _ _ _ _ _ (omega arith) (rw (c .before .before .before .count-call .ensures) (λ r h q e. (refl, e, refl))))))
+    (λ c. rw (c .before .before .before .before .before .before .before .before .before .t .given .1, c .before .before .before .if1 .taken, c .new2 .ensures) (after-call _ _ 0 _ _ _ _ _ _ _ (omega arith) (c .before .before .before .before .with-log .ensures) (rw (c .before .before .before .before .before .count-call .ensures) at (c .before .coordinator-to .ensures))))
+    (λ c. rw (c .before .before .before .before .before .before .before .t .given .1, c .before .if1 .left, c .new3 .ensures) (after-call _ moved 0 _ _ _ _ _ _ _ (omega arith) (c .before .before .with-log .ensures) (rw (c .before .before .before .count-call .ensures) (λ r h q e. (refl, e, refl))))))

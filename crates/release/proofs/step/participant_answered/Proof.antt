@@ -1,6 +1,6 @@
 -- `release::step::participant_answered` meets its contract, case by case. Assumes nothing.
 use mathlib.Core.Path.{_≡_, refl, sym, _∙_}
-use Prim.Native.Nat.{suc, _+_}
+use Prim.Native.Nat.{_+_}
 use native.Mathlib.Omega.{arith}
 use native.Mathlib.Numerals.{add-one}
 use Rattle.rules.specs.Step.{moved}
@@ -17,11 +17,11 @@ participant-answered-spec =
     (λ c κs. search needs)
     (λ c. search needs)
     (λ c. search needs)
-    (λ c κs. let start = c .before .before .before .before .before in (omega (arith, start .pre .0), start .pre .2 (start .args .i + 1) (omega (arith, start .pre .0))))
+    (λ c κs. let start = c .before .before .before .before .before in (omega (arith, start .pre .0), start .pre .2 _ (omega (arith, start .pre .0))))
     (λ c κs. search needs)
     (λ c κs. search needs)
     (λ c κs. search needs)
     (λ c κs. search needs)
     (λ c. rw (c .before .enum-told .given .1, c .new .ensures) (λ n. idles n _ _))
-    (λ c. let start = c .before .before .before .before .before .before .before .before .before .before .before in λ n. rw (c .before .before .before .before .before .before .before .before .before .t .given .1, c .before .before .before .if1 .taken, c .new2 .ensures, c .before .before .before .before .with-log .ensures) (after-call n _ (suc (start .args .i)) _ _ _ _ _ _ (omega (arith, start .pre .0)) (rw (c .before .before .before .before .before .count-call .ensures, add-one (start .args .i)) at (under n _ _ _ _ (c .before .participant-to .ensures)))))
-    (λ c. let start = c .before .before .before .before .before .before .before .before .before in λ n. rw (c .before .before .before .before .before .before .before .t .given .1, c .before .if1 .left, c .new3 .ensures, c .before .before .with-log .ensures) (after-call n moved (suc (start .args .i)) _ _ _ _ _ _ (omega (arith, start .pre .0)) (rw (c .before .before .before .count-call .ensures, add-one (start .args .i)) (λ r h q e. (refl, e, refl))))))
+    (λ c. let start = c .before .before .before .before .before .before .before .before .before .before .before in λ n. rw (c .before .before .before .before .before .before .before .before .before .t .given .1, c .before .before .before .if1 .taken, c .new2 .ensures, ← add-one (start .args .i)) (after-call n _ (start .args .i + 1) _ _ _ _ _ _ _ (omega (arith, start .pre .0)) (c .before .before .before .before .with-log .ensures) (rw (c .before .before .before .before .before .count-call .ensures) at (under n _ _ _ _ (c .before .participant-to .ensures)))))
+    (λ c. let start = c .before .before .before .before .before .before .before .before .before in λ n. rw (c .before .before .before .before .before .before .before .t .given .1, c .before .if1 .left, c .new3 .ensures, ← add-one (start .args .i)) (after-call n moved (start .args .i + 1) _ _ _ _ _ _ _ (omega (arith, start .pre .0)) (c .before .before .with-log .ensures) (rw (c .before .before .before .count-call .ensures) (λ r h q e. (refl, e, refl))))))
