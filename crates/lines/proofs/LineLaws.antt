@@ -3,19 +3,20 @@
 use mathlib.Core.Path.{_≡_, refl, sym, ap, _∙_}
 use mathlib.Core.Bool.{Bool, true, false, cond}
 use mathlib.Core.List.{List, [], _∷_, _++_, append-assoc}
-use Prim.Native.Nat.{ℕ, suc, _+_, _*_, _≤_, _<_}
+use Prim.Native.Nat.{ℕ, suc, _+_, _*_, _%_, _≤_, _<_}
 use native.Mathlib.Numerals.{add-one}
 use native.Mathlib.Omega.{arith}
-use lib.Dec.{eqb}
+use lib.Dec.{eqb, leb}
 use lib.ListN.{length, getD, drop, length-append, drop-of-length-le}
 use lib.Seq.{sets, length-sets, drop-cons}
+use borrow.Author.Tests.{le-leb, lt-leb}
 use Rattle.number.proofs.Lists.{sets-append}
 use Rattle.text.specs.Text.{decimal}
 use Rattle.text.specs.Put.{Put}
 use Rattle.text.proofs.Laws.{decimal-length}
 use Rattle.schedule.specs.Record.{longest}
 use Rattle.lines.specs.Types.{Outcome}
-use Rattle.lines.specs.Lines.{outcomeText}
+use Rattle.lines.specs.Lines.{outcomeText, closedText, wordText}
 use Rattle.lines.specs.Lines.{byteText, byteLines}
 
 -- the lines of what is left before byte i
@@ -26,21 +27,37 @@ pub no-lines : byteLines 1 [] ≡ []
 unfolding byteLines
 no-lines = refl
 
-pub byte-few : (b : ℕ) → length (byteText b) ≤ 8
-byte-few b = few (eqb b 0) (eqb b 1) (eqb b 2)
+pub word-few : (k : ℕ) → length (wordText k) ≤ 7
+word-few k = few (eqb k 0) (eqb k 1) (eqb k 2)
   where
     few : (x y z : Bool)
-        → length (cond x (outcomeText Outcome.Idle) (cond y (outcomeText Outcome.Moved) (cond z (outcomeText Outcome.Commit) (outcomeText Outcome.Abort)))) ≤ 8
+        → length (cond x (outcomeText Outcome.Idle) (cond y (outcomeText Outcome.Moved) (cond z (outcomeText Outcome.Commit) (outcomeText Outcome.Abort)))) ≤ 7
     few true y z = omega arith
     few false true z = omega arith
     few false false true = omega arith
     few false false false = omega arith
 
+closed-few : (b : Bool) → length (closedText b) ≤ 8
+closed-few true = omega arith
+closed-few false = omega arith
+
+pub byte-long : (b : ℕ) → length (byteText b) ≡ length (wordText (b % 4)) + length (closedText (leb 4 b))
+byte-long b = length-append (wordText (b % 4)) (closedText (leb 4 b))
+
+pub closed-yes : (b : ℕ) → 4 ≤ b → closedText true ≡ closedText (leb 4 b)
+closed-yes b h = rw (le-leb 4 b h) refl
+
+pub closed-no : (b : ℕ) → b < 4 → closedText false ≡ closedText (leb 4 b)
+closed-no b h = rw (lt-leb 4 b h) refl
+
+pub byte-few : (b : ℕ) → length (byteText b) ≤ 15
+byte-few b = omega (arith, length-append (wordText (b % 4)) (closedText (leb 4 b)), word-few (b % 4), closed-few (leb 4 b))
+
 pub number-few : (k l : ℕ) → l ≡ length (decimal k) → k ≤ longest → l ≤ 5
 number-few k l e h = rw e (decimal-length 5 k (omega arith) (omega arith))
 
 -- lines whose numbers have at most five digits
-pub lines-few : (k : ℕ) (bytes : List ℕ) → k + length bytes ≤ 100000 → length (byteLines k bytes) ≤ 13 * length bytes
+pub lines-few : (k : ℕ) (bytes : List ℕ) → k + length bytes ≤ 100000 → length (byteLines k bytes) ≤ 20 * length bytes
 unfolding byteLines
 lines-few k [] h = omega arith
 lines-few k (b ∷ bytes) h =

@@ -1,18 +1,25 @@
 -- The parts of a listing's lines: what follows a step's number, a count, a log. Assumes nothing.
-use mathlib.Core.Bool.{cond}
+use mathlib.Core.Bool.{Bool, true, false, cond}
 use mathlib.Core.List.{List, [], _∷_, _++_}
-use Prim.Native.Nat.{ℕ, suc}
-use lib.Dec.{eqb}
+use Prim.Native.Nat.{ℕ, suc, _%_}
+use lib.Dec.{eqb, leb}
 use Rattle.text.specs.Text.{ascii, decimal}
 use Rattle.rules.specs.Report.{outcomeNumber}
-use Rattle.lines.specs.Types.{LogRecord, LogPair, Outcome}
+use Rattle.lines.specs.Types.{LogRecord, LogPair, Outcome, Report}
 
--- idle, moved, commit or abort
+-- idle, moved, commit or abort; and `closed`
 abbrev pub outcomeText : Outcome → List ℕ
-outcomeText Outcome.Idle = ascii " idle\n"
-outcomeText Outcome.Moved = ascii " moved\n"
-outcomeText Outcome.Commit = ascii " commit\n"
-outcomeText Outcome.Abort = ascii " abort\n"
+outcomeText Outcome.Idle = ascii " idle"
+outcomeText Outcome.Moved = ascii " moved"
+outcomeText Outcome.Commit = ascii " commit"
+outcomeText Outcome.Abort = ascii " abort"
+
+abbrev pub closedText : Bool → List ℕ
+closedText true = ascii " closed\n"
+closedText false = ascii "\n"
+
+abbrev pub reportText : Report → List ℕ
+reportText t = outcomeText (t .outcome) ++ closedText (t .closed)
 
 -- a count
 abbrev pub countText : ℕ → List ℕ
@@ -31,11 +38,14 @@ logText l = ascii " " ++ (recordText (l .first) ++ recordText (l .last))
 
 -- A line a step by the report's bytes, as the code has them
 
+abbrev pub wordText : ℕ → List ℕ
+wordText k =
+    cond (eqb k (outcomeNumber Outcome.Idle)) (outcomeText Outcome.Idle)
+    (cond (eqb k (outcomeNumber Outcome.Moved)) (outcomeText Outcome.Moved)
+    (cond (eqb k (outcomeNumber Outcome.Commit)) (outcomeText Outcome.Commit) (outcomeText Outcome.Abort)))
+
 abbrev pub byteText : ℕ → List ℕ
-byteText b =
-    cond (eqb b (outcomeNumber Outcome.Idle)) (outcomeText Outcome.Idle)
-    (cond (eqb b (outcomeNumber Outcome.Moved)) (outcomeText Outcome.Moved)
-    (cond (eqb b (outcomeNumber Outcome.Commit)) (outcomeText Outcome.Commit) (outcomeText Outcome.Abort)))
+byteText b = wordText (b % 4) ++ closedText (leb 4 b)
 
 unfoldable pub byteLines : ℕ → List ℕ → List ℕ
 byteLines k [] = []

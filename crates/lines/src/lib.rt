@@ -12,17 +12,37 @@ ghost use lib.ListN.{length, take};
 ghost use Rattle.text.specs.Put.{Put, each};
 ghost use Rattle.store.specs.Log.{places};
 ghost use Rattle.schedule.specs.Record.{longest};
-ghost use Rattle.lines.specs.Lines.{countText, recordText, logText, byteText, byteLines};
+ghost use Rattle.lines.specs.Lines.{countText, recordText, logText, wordText, byteText, byteLines};
+
+// The length of an outcome's word, by its number.
+fn word_length(k: u8) -> usize
+    ensures { λ l. ⌜ l ≡ length (wordText k) ⌝ }
+{
+    match k {
+        0 => 5,
+        1 => 6,
+        2 => 7,
+        _ => 6,
+    }
+}
 
 // The length of what follows a step's number.
 fn byte_length(b: u8) -> usize
     ensures { λ l. ⌜ l ≡ length (byteText b) ⌝ }
 {
-    match b {
-        0 => 6,
-        1 => 7,
-        2 => 8,
-        _ => 7,
+    let word = word_length(b % 4);
+    if 4 <= b { word + 8 } else { word + 1 }
+}
+
+fn put_word(text: &mut [u8], place: usize, k: u8) -> usize
+    requires { ⌜ place + length (wordText k) ≤ length (now text) ⌝ }
+    ensures { λ end. ⌜ Put (now (text .entry)) place (wordText k) end (now (text .exit)) ⌝ }
+{
+    match k {
+        0 => put(text, place, b" idle"),
+        1 => put(text, place, b" moved"),
+        2 => put(text, place, b" commit"),
+        _ => put(text, place, b" abort"),
     }
 }
 
@@ -30,11 +50,11 @@ fn put_byte(text: &mut [u8], place: usize, b: u8) -> usize
     requires { ⌜ place + length (byteText b) ≤ length (now text) ⌝ }
     ensures { λ end. ⌜ Put (now (text .entry)) place (byteText b) end (now (text .exit)) ⌝ }
 {
-    match b {
-        0 => put(text, place, b" idle\n"),
-        1 => put(text, place, b" moved\n"),
-        2 => put(text, place, b" commit\n"),
-        _ => put(text, place, b" abort\n"),
+    let at = put_word(text, place, b % 4);
+    if 4 <= b {
+        put(text, at, b" closed\n")
+    } else {
+        put(text, at, b"\n")
     }
 }
 

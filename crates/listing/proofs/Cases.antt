@@ -20,7 +20,7 @@ abbrev cases : List ListingCase
 cases =
     -- P1
     case (1 ∷ 2 ∷ 3 ∷ 2 ∷ 3 ∷ 1 ∷ 1 ∷ 6 ∷ 1 ∷ 1 ∷ 8 ∷ 1 ∷ 6 ∷ 1 ∷ 2 ∷ 6 ∷ 1 ∷ 1 ∷ 3 ∷ 1 ∷ 2 ∷ 6 ∷ 2 ∷ 2 ∷ [])
-    "1 moved\n2 moved\n3 moved\n4 moved\n5 abort\n6 moved\n7 moved\n8 abort\ncalls 0 3 1\nlogs ya aa\n"
+    "1 moved\n2 moved\n3 moved\n4 moved\n5 abort closed\n6 moved\n7 moved\n8 abort\ncalls 0 3 1\nlogs ya aa\n"
     -- P2
     ∷ case (1 ∷ 1 ∷ 1 ∷ 2 ∷ 3 ∷ 1 ∷ 1 ∷ 6 ∷ 1 ∷ 1 ∷ 8 ∷ 1 ∷ 6 ∷ 1 ∷ 1 ∷ [])
     "1 moved\n2 moved\n3 moved\n4 commit\n5 moved\ncalls 0 2\nlogs yc\n"

@@ -19,13 +19,13 @@ use Rattle.schedule.specs.Schedule.{Reading, Accepted, Refused, readSchedule, s
 use Rattle.schedule.specs.RoundTrip.{RefusalOf, too-long, at-header, at-step}
 use Rattle.schedule.proofs.Laws.{header-size}
 use Rattle.schedule.proofs.Reading.{refused-number, SaysWhole, read-says, steps-few}
-use Rattle.rules.specs.Run.{outcomes, after}
+use Rattle.rules.specs.Run.{reports, after}
 use Rattle.passes.specs.Pass.{freshOf, stepBytes}
 use Rattle.passes.proofs.Passed.{bytes-length}
 use Rattle.listing.specs.Types.{Step, Header, Written}
 use Rattle.listing.specs.Listing.{stepLines, endLines, readingText, listing, longestText, ListingFits, listAnswers, listLeaves}
 use Rattle.lines.proofs.LineLaws.{lines-few}
-use Rattle.listing.proofs.Laws.{lines-outcomes, end-few}
+use Rattle.listing.proofs.Laws.{lines-reports, end-few}
 use Rattle.listing.proofs.Listed.{run-calls, run-n}
 
 -- a refusal's number and place
@@ -44,8 +44,8 @@ run-fits h steps small few =
     let last = end-few (after (freshOf h) steps) (run-n h steps small) (λ p. omega (arith, run-calls h steps p)) in
     omega (
       arith,
-      length-append (stepLines 1 (outcomes (freshOf h) steps)) (endLines (after (freshOf h) steps)),
-      ap length (lines-outcomes 1 (outcomes (freshOf h) steps)),
+      length-append (stepLines 1 (reports (freshOf h) steps)) (endLines (after (freshOf h) steps)),
+      ap length (lines-reports 1 (reports (freshOf h) steps)),
       bytes-length (freshOf h) steps,
     )
 

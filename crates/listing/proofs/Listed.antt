@@ -12,7 +12,7 @@ use Rattle.text.proofs.Putting.{put-front}
 use Rattle.store.specs.Log.{places}
 use Rattle.schedule.specs.Schedule.{Reading, Accepted, Refused, readSchedule}
 use Rattle.schedule.proofs.Laws.{header-size}
-use Rattle.rules.specs.Run.{outcomes, after}
+use Rattle.rules.specs.Run.{reports, after}
 use Rattle.rules.specs.Step.{step}
 use Rattle.rules.proofs.Agreement.{replicate-all}
 use Rattle.rules.proofs.Counts.{one-call-more}
@@ -24,7 +24,7 @@ use Rattle.text.specs.Text.{refusalLine}
 use Rattle.listing.specs.Listing.{endLines, readingText, listing}
 use Rattle.lines.specs.Lines.{byteLines}
 use Rattle.listing.specs.Bytes.{textAnswer, textLeft}
-use Rattle.listing.proofs.Laws.{lines-outcomes, end-few}
+use Rattle.listing.proofs.Laws.{lines-reports, end-few}
 
 -- A text that is too short for some bytes, and one that has room for them
 
@@ -74,7 +74,7 @@ module _ (s : List ℕ) (h : Header) (m : ℕ) (c : validated (readSchedule s) �
   pub listed : byteLines 1 (stepBytes (freshOf h) (stepsOf (readSchedule s))) ++ endLines (after (freshOf h) (stepsOf (readSchedule s))) ≡ listing s
   listed =
       let steps : List Step = stepsOf (readSchedule s) in
-      ap (λ l. l ++ endLines (after (freshOf h) steps)) (lines-outcomes 1 (outcomes (freshOf h) steps))
+      ap (λ l. l ++ endLines (after (freshOf h) steps)) (lines-reports 1 (reports (freshOf h) steps))
       ∙ sym (ap readingText (passed s h m c .accepted))
 
 pub refused : (x : Reading) (k place : ℕ) → validated x ≡ Validated.Refused k place → refusalLine k place ≡ readingText x

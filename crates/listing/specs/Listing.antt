@@ -9,16 +9,16 @@ use Rattle.text.specs.Text.{ascii, decimal, refusalLine}
 use Rattle.text.specs.Put.{each}
 use Rattle.schedule.specs.Schedule.{Reading, Accepted, Refused, readSchedule}
 use Rattle.writer.specs.Writer.{roomAnswer}
-use Rattle.rules.specs.Run.{outcomes, after}
+use Rattle.rules.specs.Run.{reports, after}
 use Rattle.passes.specs.Pass.{freshOf}
-use Rattle.lines.specs.Lines.{outcomeText, countText, logText}
-use Rattle.listing.specs.Types.{Written, Release, Outcome}
+use Rattle.lines.specs.Lines.{reportText, countText, logText}
+use Rattle.listing.specs.Types.{Written, Release, Report}
 
--- A line a step: step number from 1, then idle, moved, commit or abort
+-- A line a step: step number from 1, then idle, moved, commit or abort, then `closed` where it closed another's log
 
-unfoldable pub stepLines : ℕ → List Outcome → List ℕ
+unfoldable pub stepLines : ℕ → List Report → List ℕ
 stepLines k [] = []
-stepLines k (o ∷ os) = decimal k ++ (outcomeText o ++ stepLines (suc k) os)
+stepLines k (t ∷ ts) = decimal k ++ (reportText t ++ stepLines (suc k) ts)
 
 -- Then `calls` with the counts of parties 0 to n
 
@@ -35,17 +35,17 @@ endLines r = callsLine r ++ logsLine r
 
 -- a refusal prints its line alone
 abbrev pub readingText : Reading → List ℕ
-readingText (Accepted h steps) = stepLines 1 (outcomes (freshOf h) steps) ++ endLines (after (freshOf h) steps)
+readingText (Accepted h steps) = stepLines 1 (reports (freshOf h) steps) ++ endLines (after (freshOf h) steps)
 readingText (Refused k place) = refusalLine k place
 
 -- the listing of a schedule's bytes
 abbrev pub listing : List ℕ → List ℕ
 listing schedule = readingText (readSchedule schedule)
 
--- a text of this length has room for every listing: 32,765 lines of at most 13 bytes, then at most 60 and 29. Proved in proofs/Fits.antt
+-- a text of this length has room for every listing: 32,765 lines of at most 20 bytes, then at most 60 and 29. Proved in proofs/Fits.antt
 
 abbrev pub longestText : ℕ
-longestText = 426034
+longestText = 655389
 
 abbrev pub ListingFits : Type 0
 ListingFits = (schedule : List ℕ) → length (listing schedule) ≤ longestText

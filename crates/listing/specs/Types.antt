@@ -7,3 +7,4 @@ pub use Rattle.writer.specs.declared.Written.{Written}
 pub use Rattle.rules.specs.declared.Release.{Release}
 pub use Rattle.rules.specs.declared.Outcome.{Outcome}
 pub use Rattle.passes.specs.declared.Validated.{Validated}
+pub use Rattle.rules.specs.declared.Report.{Report}

@@ -29,7 +29,7 @@ ghost use Rattle.lines.specs.Lines.{byteLines};
 ghost use Rattle.listing.specs.Bytes.{textAnswer, textLeft};
 
 // No listing has more bytes than this.
-pub const LONGEST_TEXT: usize = 426034;
+pub const LONGEST_TEXT: usize = 655389;
 
 // Room for the last two lines, and for a refusal.
 const LAST: usize = 96;

@@ -1,14 +1,16 @@
 -- Document 01's cases P1 to P13: the schedule's bytes or the log call, and what it must give. One theorem covers the table: proofs/Cases.antt.
 -- Assumes nothing.
 use mathlib.Core.Path.{_≡_}
+use mathlib.Core.Bool.{false}
 use mathlib.Core.List.{List, [], _∷_}
-use Prim.Native.Nat.{ℕ, suc}
+use Prim.Native.Nat.{ℕ, suc, _+_}
 use lib.ListN.{take}
 use Rattle.number.specs.Refusal.{emptyOrTooLong, bodyCutShort, headerMisplaced, outOfRange, refusedByRule}
 use Rattle.store.specs.Entry.{Handed, refused, logOnceEntry, logEntry}
 use Rattle.schedule.specs.Schedule.{Reading, Accepted, Refused, readSchedule}
-use Rattle.rules.specs.Run.{outcomes, after}
-use Rattle.passes.specs.Pass.{freshOf}
+use Rattle.rules.specs.Report.{outcomeNumber}
+use Rattle.rules.specs.Run.{after}
+use Rattle.passes.specs.Pass.{freshOf, stepBytes}
 use Rattle.marker.specs.Types.{LogRecord, LogPair, Outcome}
 
 -- a schedule's bytes, or a call on a log
@@ -17,15 +19,15 @@ pub data Given : Type 0 where
   LogOnce : LogRecord → LogPair → Given
   Log : LogRecord → LogPair → Given
 
--- the steps' outcomes, the counts of parties 0 to n and the logs of participants 1 to n; a refusal's number and place; or what a log entry hands
+-- the steps' bytes, the counts of parties 0 to n and the logs of participants 1 to n; a refusal's number and place; or what a log entry hands
 pub data Gives : Type 0 where
-  Reports : List Outcome → List ℕ → List LogPair → Gives
+  Reports : List ℕ → List ℕ → List LogPair → Gives
   Refuses : ℕ → ℕ → Gives
   Hands : Handed → Gives
 
 abbrev pub readingGives : Reading → Gives
 readingGives (Accepted h steps) =
-    Reports (outcomes (freshOf h) steps) (take (suc (h .n)) (after (freshOf h) steps .calls)) (take (h .n) (after (freshOf h) steps .store .logs))
+    Reports (stepBytes (freshOf h) steps) (take (suc (h .n)) (after (freshOf h) steps .calls)) (take (h .n) (after (freshOf h) steps .store .logs))
 readingGives (Refused k place) = Refuses k place
 
 abbrev pub gives : Given → Gives
@@ -35,17 +37,20 @@ gives (Log r l) = Hands (logEntry l r)
 
 -- words of the table
 
-abbrev idle : Outcome
-idle = Outcome.Idle
+abbrev idle : ℕ
+idle = outcomeNumber Outcome.Idle
 
-abbrev moved : Outcome
-moved = Outcome.Moved
+abbrev moved : ℕ
+moved = outcomeNumber Outcome.Moved
 
-abbrev commit : Outcome
-commit = Outcome.Commit
+abbrev commit : ℕ
+commit = outcomeNumber Outcome.Commit
 
-abbrev abort : Outcome
-abort = Outcome.Abort
+abbrev abort : ℕ
+abort = outcomeNumber Outcome.Abort
+
+abbrev closed : ℕ → ℕ
+closed k = k + 4
 
 -- pairs of records, by their letters: n none, y yes, a abort, c commit
 
@@ -61,9 +66,9 @@ yc = record { first = LogRecord.Yes; last = LogRecord.Commit }
 abbrev aa : LogPair
 aa = record { first = LogRecord.Abort; last = LogRecord.Abort }
 
--- a log entry's answer and the log after it
+-- a log entry's answer and the log after it, where the call wrote nothing
 abbrev answers : ℕ → LogPair → Gives
-answers r l = Hands (record { number = 0; answer = r; log = l })
+answers r l = Hands (record { number = 0; answer = r; wrote = false; log = l })
 
 pub record Case : Type 0 where
   pub given : Given
@@ -78,7 +83,7 @@ cases =
     case
     (Schedule
     (0x01 ∷ 0x02 ∷ 0x03 ∷ 0x02 ∷ 0x03 ∷ 0x01 ∷ 0x01 ∷ 0x06 ∷ 0x01 ∷ 0x01 ∷ 0x08 ∷ 0x01 ∷ 0x06 ∷ 0x01 ∷ 0x02 ∷ 0x06 ∷ 0x01 ∷ 0x01 ∷ 0x03 ∷ 0x01 ∷ 0x02 ∷ 0x06 ∷ 0x02 ∷ 0x02 ∷ []))
-    (Reports (moved ∷ moved ∷ moved ∷ moved ∷ abort ∷ moved ∷ moved ∷ abort ∷ []) (0 ∷ 3 ∷ 1 ∷ []) (ya ∷ aa ∷ []))
+    (Reports (moved ∷ moved ∷ moved ∷ moved ∷ closed abort ∷ moved ∷ moved ∷ abort ∷ []) (0 ∷ 3 ∷ 1 ∷ []) (ya ∷ aa ∷ []))
     -- P2: with n = 1 the timeout leads to a commit
     ∷ case (Schedule (0x01 ∷ 0x01 ∷ 0x01 ∷ 0x02 ∷ 0x03 ∷ 0x01 ∷ 0x01 ∷ 0x06 ∷ 0x01 ∷ 0x01 ∷ 0x08 ∷ 0x01 ∷ 0x06 ∷ 0x01 ∷ 0x01 ∷ []))
     (Reports (moved ∷ moved ∷ moved ∷ commit ∷ moved ∷ []) (0 ∷ 2 ∷ []) (yc ∷ []))

@@ -3,7 +3,7 @@
 use mathlib.Core.Path.{_≡_}
 use mathlib.Core.Bool.{true}
 use mathlib.Core.List.{List, _++_}
-use Prim.Native.Nat.{ℕ, suc, _+_, _-_, _≤_, _<_}
+use Prim.Native.Nat.{ℕ, suc, _+_, _-_, _%_, _≤_, _<_}
 use lib.ListN.{length, getD, take, drop}
 use Rattle.mask.specs.Mask.{full}
 use Rattle.store.specs.Log.{places}
@@ -20,9 +20,9 @@ use Rattle.layout.specs.Tail.{tailLength}
 use Rattle.layout.specs.Read.{countAt}
 use Rattle.marker.specs.Run.{runAnswers, runLeaves}
 
--- A decision is reported by a step whose byte says commit or abort
+-- A decision is reported by a step whose byte, but for the 4 of a closed log, says commit or abort
 abbrev pub Says : Outcome → ℕ → Type 0
-Says o b = b ≡ outcomeNumber o
+Says o b = b % 4 ≡ outcomeNumber o
 
 -- `bytes` are the report's step bytes; the logs are looked at after that step
 pub record BytesHold (h : Header) (steps : List Step) (bytes : List ℕ) : Type 0 where

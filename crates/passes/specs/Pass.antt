@@ -6,8 +6,8 @@ use lib.ListN.{length, drop}
 use Rattle.store.specs.Log.{places}
 use Rattle.schedule.specs.Schedule.{Reading, Accepted, Refused, stepsFrom}
 use Rattle.rules.specs.State.{fresh}
-use Rattle.rules.specs.Report.{outcomeNumber}
-use Rattle.rules.specs.Run.{outcomes}
+use Rattle.rules.specs.Report.{stepByte}
+use Rattle.rules.specs.Run.{reports}
 use Rattle.passes.specs.Types.{Step, Header, Read, Release, Validated}
 
 -- the first pass, beside the steps counted before
@@ -27,7 +27,7 @@ abbrev pub refusedAt : ℕ → Read → Validated
 refusedAt place (Read.Record r l) = Validated.Refused 0 place
 refusedAt place (Read.Refused k p) = Validated.Refused k place
 
--- the second pass: the steps that were read, the release that their header begins, and one byte a step: 0 idle, 1 moved, 2 commit, 3 abort
+-- the second pass: the steps that were read, the release that their header begins, and one byte a step
 
 abbrev pub stepsOf : Reading → List Step
 stepsOf (Accepted h steps) = steps
@@ -37,4 +37,4 @@ abbrev pub freshOf : Header → Release
 freshOf h = fresh places (h .n) (h .votes)
 
 abbrev pub stepBytes : Release → List Step → List ℕ
-stepBytes r steps = map outcomeNumber (outcomes r steps)
+stepBytes r steps = map stepByte (reports r steps)

@@ -93,7 +93,7 @@ pub fn run_steps(schedule: &[u8], header: Header, count: usize, report: &mut [u8
         let size = length_at(&schedule[at..]);
         let stepped = step(&mut fields, store, n, s);
         let outcome = stepped.outcome;
-        report[i] = report_byte(outcome);
+        report[i] = report_byte(outcome, stepped.closed);
         store = stepped.store;
         at = at + size;
         i = i + 1;

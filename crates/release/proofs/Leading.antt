@@ -8,7 +8,7 @@ use lib.ListN.{getD, set, length-set}
 use Rattle.mask.specs.Mask.{has, full}
 use Rattle.store.specs.Log.{empty, places}
 use Rattle.rules.specs.State.{messagePlace, maskOf, inFlight, participantOf, logOf}
-use Rattle.rules.specs.Report.{known, coordinatorKnown, learnt}
+use Rattle.rules.specs.Report.{known, coordinatorKnown, learnt, withClosed}
 use Rattle.rules.specs.Step.{withMask, reply, broadcast, participantTo, coordinatorTo, called, counted, idle}
 use Rattle.state.specs.Fields.{fields, HasPlaces, votesIn, coordinatorIn, maskIn, participantIn, withCoordinatorIn, withMaskIn, withParticipantIn, countedIn, Puts}
 use Rattle.state.proofs.Parts.{same-votes, coordinator-in, participant-in, mask-in, with-coordinator, with-mask, with-participant, counts-one}
@@ -57,6 +57,7 @@ participant-goes i p s l k g u r h e = (
   ap (λ x. learnt (known (participantIn x i)) (known p)) e ∙ ap (λ x. learnt (known x) (known p)) (participant-in r h i g),
   ap (withParticipantIn i p) (u r h e) ∙ with-participant (reply s i r) (reply-places s i r h) i p g,
   reply-store s i r,
+  refl,
 )
 
 pub coordinator-goes : (n : ℕ) (c : Coordinator) (s : Sent) (l k : List ℕ) → PutsUnder n (broadcast s) l k
@@ -66,6 +67,7 @@ coordinator-goes n c s l k u r h q e = (
   ap (λ x. learnt (coordinatorKnown (coordinatorIn x)) (coordinatorKnown c)) e ∙ ap (λ x. learnt (coordinatorKnown x) (coordinatorKnown c)) (coordinator-in r h),
   ap (withCoordinatorIn c) (u r h q e) ∙ with-coordinator (broadcast s r) (broadcast-places s r h) c,
   broadcast-store s r,
+  refl,
 )
 
 -- what takes no n takes any; what leaves the store as it was takes any
@@ -73,19 +75,19 @@ coordinator-goes n c s l k u r h q e = (
 pub under : (n : ℕ) (f : Release → Report) (l k : List ℕ) (o : Outcome) → Leads f l o k → LeadsUnder n f l o k
 under n f l k o u r h q e = u r h e
 
-pub stays : (n : ℕ) (f : Release → Report) (l k : List ℕ) (o : Outcome) (s : Store) → LeadsUnder n f l o k → Steps n f l s o k s
-stays n f l k o s u r h q e t = let x = u r h q e in (x .0, x .1, t ∙ x .2)
+pub stays : (n : ℕ) (f : Release → Report) (l k : List ℕ) (o : Outcome) (s : Store) → LeadsUnder n f l o k → Steps n f l s o false k s
+stays n f l k o s u r h q e t = let x = u r h q e in (x .0, x .1, t ∙ x .2, sym (x .3))
 
-pub idles : (n : ℕ) (l : List ℕ) (s : Store) → Steps n idle l s Outcome.Idle l s
-idles n l s r h q e t = (refl, e, t)
+pub idles : (n : ℕ) (l : List ℕ) (s : Store) → Steps n idle l s Outcome.Idle false l s
+idles n l s r h q e t = (refl, e, t, refl)
 
 -- a due call is counted, its log is written, and what follows comes after that
-pub after-call : (n : ℕ) (f : Release → Report) (p j : ℕ) (x : LogPair) (l k : List ℕ) (o : Outcome) (s t : Store) → p < suc places
-    → t ≡ record { logs = set (s .logs) j x } → LeadsUnder n f (countedIn p l) o k → Steps n (λ r. f (called p j x r)) l s o k t
+pub after-call : (n : ℕ) (f : Release → Report) (p j : ℕ) (x : LogPair) (l k : List ℕ) (o : Outcome) (b c : Bool) (s t : Store) → p < suc places
+    → b ≡ c → t ≡ record { logs = set (s .logs) j x } → LeadsUnder n f (countedIn p l) o k → Steps n (λ r. withClosed c (f (called p j x r))) l s o b k t
 unfolding fields
-after-call n f p j x l k o s t g w u r h q e v =
+after-call n f p j x l k o b c s t g d w u r h q e v =
     let y = u (called p j x r) (called-places p j x r h) q (ap (countedIn p) e ∙ counts-one r h p g) in
-    (y .0, y .1, w ∙ ap (λ (z : Store). record { logs = set (z .logs) j x }) v ∙ y .2)
+    (y .0, y .1, w ∙ ap (λ (z : Store). record { logs = set (z .logs) j x }) v ∙ y .2, d)
 
 -- a message is taken out of flight, and what follows comes after that
 pub after-mask : (n : ℕ) (f : Release → Report) (g : ℕ → ℕ) (t : Message) (l k m : List ℕ) (o : Outcome) → Puts (λ r. withMask t (g (maskOf r t)) r) l k
@@ -103,7 +105,7 @@ in-flight-leads n f m i l k o b t q u r h w e = rw (flight m i l b q r h e, t) (
 
 pub no-flight-leads : (n : ℕ) (f : Release → Report) (m : Message) (i : ℕ) (l : List ℕ) (b : Bool) → b ≡ false → b ≡ has i (maskIn l m)
     → LeadsUnder n (λ r. cond (inFlight r m i) (f r) (idle r)) l Outcome.Idle l
-no-flight-leads n f m i l b t q r h w e = rw (flight m i l b q r h e, t) (refl, e, refl)
+no-flight-leads n f m i l b t q r h w e = rw (flight m i l b q r h e, t) (refl, e, refl, refl)
 
 -- a step that reads parts of the release: n, the votes, the coordinator, participant i; and one that reads log j of the store too
 
@@ -120,13 +122,13 @@ module _ (n i : ℕ) (l k : List ℕ) (o : Outcome) (g : i < places) where
   pub reads : (F : ℕ → ℕ → Coordinator → Participant → Release → Report) → LeadsUnder n (F n (votesIn l) (coordinatorIn l) (participantIn l i)) l o k
       → LeadsUnder n (λ r. F (r .n) (r .votes) (r .coordinator) (participantOf r i) r) l o k
   reads F u r h q e =
-      subst (λ (f : Release → Report). (o ≡ f r .outcome) × (k ≡ fields (f r .next)) × (r .store ≡ f r .next .store)) (same F r h q e) (u r h q e)
+      subst (λ (f : Release → Report). (o ≡ f r .outcome) × (k ≡ fields (f r .next)) × (r .store ≡ f r .next .store) × (f r .closed ≡ false)) (same F r h q e) (u r h q e)
 
-  pub reads-log : (F : ℕ → ℕ → Coordinator → Participant → LogPair → Release → Report) (j : ℕ) (s t : Store)
-      → Steps n (F n (votesIn l) (coordinatorIn l) (participantIn l i) (getD (s .logs) j empty)) l s o k t
-      → Steps n (λ r. F (r .n) (r .votes) (r .coordinator) (participantOf r i) (logOf r j) r) l s o k t
-  reads-log F j s t u r h q e w =
-      subst (λ (f : Release → Report). (o ≡ f r .outcome) × (k ≡ fields (f r .next)) × (t ≡ f r .next .store))
+  pub reads-log : (F : ℕ → ℕ → Coordinator → Participant → LogPair → Release → Report) (j : ℕ) (b : Bool) (s t : Store)
+      → Steps n (F n (votesIn l) (coordinatorIn l) (participantIn l i) (getD (s .logs) j empty)) l s o b k t
+      → Steps n (λ r. F (r .n) (r .votes) (r .coordinator) (participantOf r i) (logOf r j) r) l s o b k t
+  reads-log F j b s t u r h q e w =
+      subst (λ (f : Release → Report). (o ≡ f r .outcome) × (k ≡ fields (f r .next)) × (t ≡ f r .next .store) × (b ≡ f r .closed))
       (ap (λ (x : Store). F n (votesIn l) (coordinatorIn l) (participantIn l i) (getD (x .logs) j empty)) w ∙ same (λ n v c p. F n v c p (logOf r j)) r h q e)
       (u r h q e w)
 
@@ -138,5 +140,5 @@ number-place p g = omega arith
 pub numbered : (n : ℕ) (f : ℕ → Release → Report) (p : ℕ) (l k : List ℕ) (o : Outcome) → 1 ≤ p → LeadsUnder n (f (suc (p - 1))) l o k → LeadsUnder n (f p) l o k
 numbered n f p l k o g u = subst (λ x. LeadsUnder n (f x) l o k) (number-place p g) u
 
-pub numbered-log : (n : ℕ) (f : ℕ → Release → Report) (p : ℕ) (l k : List ℕ) (o : Outcome) (s t : Store) → 1 ≤ p → Steps n (f (suc (p - 1))) l s o k t → Steps n (f p) l s o k t
-numbered-log n f p l k o s t g u = subst (λ x. Steps n (f x) l s o k t) (number-place p g) u
+pub numbered-log : (n : ℕ) (f : ℕ → Release → Report) (p : ℕ) (l k : List ℕ) (o : Outcome) (b : Bool) (s t : Store) → 1 ≤ p → Steps n (f (suc (p - 1))) l s o b k t → Steps n (f p) l s o b k t
+numbered-log n f p l k o b s t g u = subst (λ x. Steps n (f x) l s o b k t) (number-place p g) u

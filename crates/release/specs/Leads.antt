@@ -1,6 +1,7 @@
 -- What code that changes the numbers of a release in place is held to: whatever release the numbers and the store before are of, what is answered and
 -- the numbers and the store after are those that a definition of the rules gives for it. Assumes nothing.
 use mathlib.Core.Path.{_≡_}
+use mathlib.Core.Bool.{Bool, false}
 use mathlib.Core.List.{List}
 use Prim.Native.Nat.{ℕ, suc, _+_, _<_}
 use lib.ListN.{getD}
@@ -13,20 +14,20 @@ use Rattle.release.specs.Types.{Store, Outcome, Release, Report}
 abbrev pub PutsUnder : ℕ → (Release → Release) → List ℕ → List ℕ → Type 0
 PutsUnder n f before after = (r : Release) → HasPlaces r → r .n ≡ n → before ≡ fields r → after ≡ fields (f r)
 
--- a step that leaves the store as it was, and one that takes n
+-- a step that leaves the store as it was, so that it closes no log, and one that takes n
 
 abbrev pub Leads : (Release → Report) → List ℕ → Outcome → List ℕ → Type 0
-Leads f before o after = (r : Release) → HasPlaces r → before ≡ fields r → (o ≡ f r .outcome) × (after ≡ fields (f r .next)) × (r .store ≡ f r .next .store)
+Leads f before o after = (r : Release) → HasPlaces r → before ≡ fields r → (o ≡ f r .outcome) × (after ≡ fields (f r .next)) × (r .store ≡ f r .next .store) × (f r .closed ≡ false)
 
 abbrev pub LeadsUnder : ℕ → (Release → Report) → List ℕ → Outcome → List ℕ → Type 0
 LeadsUnder n f before o after =
-    (r : Release) → HasPlaces r → r .n ≡ n → before ≡ fields r → (o ≡ f r .outcome) × (after ≡ fields (f r .next)) × (r .store ≡ f r .next .store)
+    (r : Release) → HasPlaces r → r .n ≡ n → before ≡ fields r → (o ≡ f r .outcome) × (after ≡ fields (f r .next)) × (r .store ≡ f r .next .store) × (f r .closed ≡ false)
 
--- a step with the store before and after it
-abbrev pub Steps : ℕ → (Release → Report) → List ℕ → Store → Outcome → List ℕ → Store → Type 0
-Steps n f before store o after next =
+-- a step with the store before and after it, and whether it closed another's log
+abbrev pub Steps : ℕ → (Release → Report) → List ℕ → Store → Outcome → Bool → List ℕ → Store → Type 0
+Steps n f before store o closed after next =
     (r : Release) → HasPlaces r → r .n ≡ n → before ≡ fields r → store ≡ r .store
-    → (o ≡ f r .outcome) × (after ≡ fields (f r .next)) × (next ≡ f r .next .store)
+    → (o ≡ f r .outcome) × (after ≡ fields (f r .next)) × (next ≡ f r .next .store) × (closed ≡ f r .closed)
 
 -- every count has room for one call more
 abbrev pub CanCount : List ℕ → Type 0

@@ -2,8 +2,13 @@
 use coordinator::Coordinator;
 use participant::Participant;
 use rules::Outcome;
+use store::LogRecord;
+use store::Logged;
 ghost use mathlib.Core.Path.{_≡_};
-ghost use Rattle.rules.specs.Report.{outcomeNumber, moves, known, coordinatorKnown, learnt};
+ghost use mathlib.Core.Bool.{cond};
+ghost use Prim.Native.Nat.{_+_, _≤_, _<_};
+ghost use Rattle.store.specs.Log.{places};
+ghost use Rattle.rules.specs.Report.{outcomeNumber, moves, known, coordinatorKnown, learnt, isAbort, closes};
 
 // Whether the step was due.
 pub fn moves(o: Outcome) -> bool
@@ -17,15 +22,47 @@ pub fn moves(o: Outcome) -> bool
     }
 }
 
-// The report byte.
-pub fn report_byte(o: Outcome) -> u8
-    ensures { λ k. ⌜ k ≡ outcomeNumber o ⌝ }
+// The outcome's number.
+fn outcome_number(o: Outcome) -> u8
+    ensures { λ k. ⌜ (k ≡ outcomeNumber o) × (k ≤ 3) ⌝ }
 {
     match o {
         Outcome::Idle => 0,
         Outcome::Moved => 1,
         Outcome::Commit => 2,
         Outcome::Abort => 3,
+    }
+}
+
+// The report byte.
+pub fn report_byte(o: Outcome, closed: bool) -> u8
+    ensures { λ k. ⌜ k ≡ outcomeNumber o + cond closed 4 0 ⌝ }
+{
+    let k = outcome_number(o);
+    if closed { k + 4 } else { k }
+}
+
+fn is_abort(r: LogRecord) -> bool
+    ensures { λ b. ⌜ b ≡ isAbort r ⌝ }
+{
+    match r {
+        LogRecord::None => false,
+        LogRecord::Yes => false,
+        LogRecord::Abort => true,
+        LogRecord::Commit => false,
+    }
+}
+
+// Whether party p, by a call on the log at place j that left this, closed another's log.
+pub fn closes(p: u32, j: u32, l: Logged) -> bool
+    requires { ⌜ j < places ⌝ }
+    ensures { λ b. ⌜ b ≡ closes p j l ⌝ }
+{
+    let answer = l.answer;
+    if l.wrote {
+        if is_abort(answer) { p != j + 1 } else { false }
+    } else {
+        false
     }
 }
 

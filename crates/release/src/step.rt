@@ -1,6 +1,7 @@
 // One step of a release: `fields` are its numbers, and a step changes those of the parts that it names, in place; the store goes in by value and
 // comes back. A contract says what this is for the release that they are of. `i` and `j` are places, which count from 0; `p` is the number of a
 // party; `n` is the release's own; `heard` says whether the answer of a call is heard.
+use super::outcome::closes;
 use super::outcome::coordinator_known;
 use super::outcome::known;
 use super::outcome::learnt;
@@ -34,18 +35,20 @@ ghost use Rattle.rules.specs.Step.{drop, reply, participantTo, participantGoes,
 ghost use Rattle.state.specs.Fields.{maskIn, Puts};
 ghost use Rattle.release.specs.Leads.{PutsUnder, Leads, LeadsUnder, Steps, CanCount};
 
-// What a step reports, and the store after it.
+// What a step reports, whether it closed another's log, and the store after it.
 pub struct Stepped {
     pub outcome: Outcome,
+    pub closed: bool,
     pub store: Store,
 }
 
 impl Stepped {
-    fn new(o: Outcome, store: Store) -> Stepped
-        ensures { λ x. ⌜ x ≡ record { outcome = o; store = store } ⌝ }
+    fn new(o: Outcome, closed: bool, store: Store) -> Stepped
+        ensures { λ x. ⌜ x ≡ record { outcome = o; closed = closed; store = store } ⌝ }
     {
         Stepped {
             outcome: o,
+            closed: closed,
             store: store,
         }
     }
@@ -196,18 +199,19 @@ fn participant_answered(
     t: participant::Transition,
 ) -> Stepped
     requires { ⌜ (i < places) × (j < places) × CanCount (now fields) ⌝ }
-    ensures { λ x. ⌜ ((n : ℕ) → Steps n (participantAnswered heard i j l t) (now (fields .entry)) store (x .outcome) (now (fields .exit)) (x .store)) ⌝ }
+    ensures { λ x. ⌜ ((n : ℕ) → Steps n (participantAnswered heard i j l t) (now (fields .entry)) store (x .outcome) (x .closed) (now (fields .exit)) (x .store)) ⌝ }
 {
     match t {
-        participant::Transition::NotDue => Stepped::new(Outcome::Idle, store),
+        participant::Transition::NotDue => Stepped::new(Outcome::Idle, false, store),
         participant::Transition::To(p, s) => {
+            let closed = closes(i + 1, j, l);
             let log = l.log;
             count_call(fields, i + 1);
             let next = store.with_log(j as usize, log);
             if heard {
-                Stepped::new(participant_to(fields, i, p, s), next)
+                Stepped::new(participant_to(fields, i, p, s), closed, next)
             } else {
-                Stepped::new(Outcome::Moved, next)
+                Stepped::new(Outcome::Moved, closed, next)
             }
         }
     }
@@ -223,10 +227,10 @@ fn participant_performed(
     l: Performed,
 ) -> Stepped
     requires { ⌜ (n ≤ places) × (i < places) × (j < places) × CanCount (now fields) ⌝ }
-    ensures { λ x. ⌜ Steps n (participantPerformed heard i j l) (now (fields .entry)) store (x .outcome) (now (fields .exit)) (x .store) ⌝ }
+    ensures { λ x. ⌜ Steps n (participantPerformed heard i j l) (now (fields .entry)) store (x .outcome) (x .closed) (now (fields .exit)) (x .store) ⌝ }
 {
     match l {
-        Performed::Refused => Stepped::new(Outcome::Idle, store),
+        Performed::Refused => Stepped::new(Outcome::Idle, false, store),
         Performed::Done(done) => {
             let answer = done.answer;
             let p = participant_at(fields, i);
@@ -244,7 +248,7 @@ fn participant_calls(
     j: u32,
 ) -> Stepped
     requires { ⌜ (n ≤ places) × (i < places) × (j < places) × CanCount (now fields) ⌝ }
-    ensures { λ x. ⌜ Steps n (participantCalls heard i j) (now (fields .entry)) store (x .outcome) (now (fields .exit)) (x .store) ⌝ }
+    ensures { λ x. ⌜ Steps n (participantCalls heard i j) (now (fields .entry)) store (x .outcome) (x .closed) (now (fields .exit)) (x .store) ⌝ }
 {
     let p = participant_at(fields, i);
     let log = store.log_at(j as usize);
@@ -262,18 +266,19 @@ fn coordinator_answered(
     t: coordinator::Transition,
 ) -> Stepped
     requires { ⌜ (n ≤ places) × (j < places) × CanCount (now fields) ⌝ }
-    ensures { λ x. ⌜ Steps n (coordinatorAnswered heard j l t) (now (fields .entry)) store (x .outcome) (now (fields .exit)) (x .store) ⌝ }
+    ensures { λ x. ⌜ Steps n (coordinatorAnswered heard j l t) (now (fields .entry)) store (x .outcome) (x .closed) (now (fields .exit)) (x .store) ⌝ }
 {
     match t {
-        coordinator::Transition::NotDue => Stepped::new(Outcome::Idle, store),
+        coordinator::Transition::NotDue => Stepped::new(Outcome::Idle, false, store),
         coordinator::Transition::To(c, s) => {
+            let closed = closes(0, j, l);
             let log = l.log;
             count_call(fields, 0);
             let next = store.with_log(j as usize, log);
             if heard {
-                Stepped::new(coordinator_to(fields, n, c, s), next)
+                Stepped::new(coordinator_to(fields, n, c, s), closed, next)
             } else {
-                Stepped::new(Outcome::Moved, next)
+                Stepped::new(Outcome::Moved, closed, next)
             }
         }
     }
@@ -288,10 +293,10 @@ fn coordinator_performed(
     l: Performed,
 ) -> Stepped
     requires { ⌜ (n ≤ places) × (j < places) × CanCount (now fields) ⌝ }
-    ensures { λ x. ⌜ Steps n (coordinatorPerformed heard j l) (now (fields .entry)) store (x .outcome) (now (fields .exit)) (x .store) ⌝ }
+    ensures { λ x. ⌜ Steps n (coordinatorPerformed heard j l) (now (fields .entry)) store (x .outcome) (x .closed) (now (fields .exit)) (x .store) ⌝ }
 {
     match l {
-        Performed::Refused => Stepped::new(Outcome::Idle, store),
+        Performed::Refused => Stepped::new(Outcome::Idle, false, store),
         Performed::Done(done) => {
             let answer = done.answer;
             let c = coordinator(fields);
@@ -308,7 +313,7 @@ fn coordinator_calls(
     j: u32,
 ) -> Stepped
     requires { ⌜ (n ≤ places) × (j < places) × CanCount (now fields) ⌝ }
-    ensures { λ x. ⌜ Steps n (coordinatorCalls heard j) (now (fields .entry)) store (x .outcome) (now (fields .exit)) (x .store) ⌝ }
+    ensures { λ x. ⌜ Steps n (coordinatorCalls heard j) (now (fields .entry)) store (x .outcome) (x .closed) (now (fields .exit)) (x .store) ⌝ }
 {
     let c = coordinator(fields);
     let log = store.log_at(j as usize);
@@ -318,7 +323,7 @@ fn coordinator_calls(
 // A call of party p on the log at place j.
 fn calls(fields: &mut [u32; FIELDS], store: Store, n: u32, heard: bool, p: u32, j: u32) -> Stepped
     requires { ⌜ (n ≤ places) × (p ≤ places) × (j < places) × CanCount (now fields) ⌝ }
-    ensures { λ x. ⌜ Steps n (calls heard p (suc j)) (now (fields .entry)) store (x .outcome) (now (fields .exit)) (x .store) ⌝ }
+    ensures { λ x. ⌜ Steps n (calls heard p (suc j)) (now (fields .entry)) store (x .outcome) (x .closed) (now (fields .exit)) (x .store) ⌝ }
 {
     if p == 0 {
         coordinator_calls(fields, store, n, heard, j)
@@ -377,17 +382,17 @@ fn restart(fields: &mut [u32; FIELDS], n: u32, p: u32) -> Outcome
 // One step that a reader yields under a header with n. Only a store call changes the store.
 pub fn step(fields: &mut [u32; FIELDS], store: Store, n: u32, s: Step) -> Stepped
     requires { ⌜ (n ≤ places) × (inRange n s ≡ true) × CanCount (now fields) ⌝ }
-    ensures { λ x. ⌜ Steps n (λ r. step r s) (now (fields .entry)) store (x .outcome) (now (fields .exit)) (x .store) ⌝ }
+    ensures { λ x. ⌜ Steps n (λ r. step r s) (now (fields .entry)) store (x .outcome) (x .closed) (now (fields .exit)) (x .store) ⌝ }
 {
     match s {
-        Step::Start => Stepped::new(start(fields, n), store),
-        Step::Deliver(m, p) => Stepped::new(deliver(fields, n, m, p - 1), store),
-        Step::Copy(m, p) => Stepped::new(deliver_copy(fields, n, m, p - 1), store),
-        Step::Lose(m, p) => Stepped::new(lose(fields, m, p - 1), store),
+        Step::Start => Stepped::new(start(fields, n), false, store),
+        Step::Deliver(m, p) => Stepped::new(deliver(fields, n, m, p - 1), false, store),
+        Step::Copy(m, p) => Stepped::new(deliver_copy(fields, n, m, p - 1), false, store),
+        Step::Lose(m, p) => Stepped::new(lose(fields, m, p - 1), false, store),
         Step::Call(p, q) => calls(fields, store, n, true, p, q - 1),
         Step::CallLost(p, q) => calls(fields, store, n, false, p, q - 1),
-        Step::Timeout(p) => Stepped::new(timeout(fields, n, p), store),
-        Step::Crash(p) => Stepped::new(crash(fields, n, p), store),
-        Step::Restart(p) => Stepped::new(restart(fields, n, p), store),
+        Step::Timeout(p) => Stepped::new(timeout(fields, n, p), false, store),
+        Step::Crash(p) => Stepped::new(crash(fields, n, p), false, store),
+        Step::Restart(p) => Stepped::new(restart(fields, n, p), false, store),
     }
 }

@@ -6,6 +6,7 @@ use Rattle.store.specs.Log.{perform}
 use Rattle.participant.specs.Participant
 use Rattle.coordinator.specs.Coordinator
 use Rattle.rules.specs.State.{participantOf, logOf, inFlight}
+use Rattle.rules.specs.Report.{closes, withClosed}
 use Rattle.rules.specs.Step.{called, drop, idle, moved, participantTo, participantGoes, coordinatorTo, coordinatorGoes, receive, participantAnswered, participantPerformed, participantCalls, coordinatorAnswered, coordinatorPerformed, coordinatorCalls, step}
 use Rattle.rules.specs.Types.{Logged, Performed, Participant, Sent, Transition, NotDue, To, Coordinator, CoordinatorTransition, Message, Step, Start, Deliver, Copy, Lose, Timeout, Crash, Restart, Release, Report}
 
@@ -26,13 +27,13 @@ pub data Cause (r : Release) : Step → Report → Type 0 where
   copies : {m : Message} {i : ℕ} → inFlight r m i ≡ true → Cause r (Copy m (suc i)) (receive m i r)
   loses : {m : Message} {i : ℕ} → Cause r (Lose m (suc i)) (moved (drop m i r))
   answered : {i j : ℕ} {l : Logged} {p : Participant} {x : Sent} → ParticipantCall r i j l p x
-      → Cause r (Step.Call (suc i) (suc j)) (participantTo i p x (called (suc i) j (l .log) r))
+      → Cause r (Step.Call (suc i) (suc j)) (withClosed (closes (suc i) j l) (participantTo i p x (called (suc i) j (l .log) r)))
   lost : {i j : ℕ} {l : Logged} {p : Participant} {x : Sent} → ParticipantCall r i j l p x
-      → Cause r (Step.CallLost (suc i) (suc j)) (moved (called (suc i) j (l .log) r))
+      → Cause r (Step.CallLost (suc i) (suc j)) (withClosed (closes (suc i) j l) (moved (called (suc i) j (l .log) r)))
   coordinator-answered : {j : ℕ} {l : Logged} {c : Coordinator} {x : Sent} → CoordinatorCall r j l c x
-      → Cause r (Step.Call zero (suc j)) (coordinatorTo c x (called 0 j (l .log) r))
+      → Cause r (Step.Call zero (suc j)) (withClosed (closes 0 j l) (coordinatorTo c x (called 0 j (l .log) r)))
   coordinator-lost : {j : ℕ} {l : Logged} {c : Coordinator} {x : Sent} → CoordinatorCall r j l c x
-      → Cause r (Step.CallLost zero (suc j)) (moved (called 0 j (l .log) r))
+      → Cause r (Step.CallLost zero (suc j)) (withClosed (closes 0 j l) (moved (called 0 j (l .log) r)))
   times-out : {i : ℕ} {p : Participant} {x : Sent} → Participant.onTimeout (r .n) i (participantOf r i) ≡ To p x
       → Cause r (Timeout (suc i)) (participantTo i p x r)
   crashes : {i : ℕ} {p : Participant} {x : Sent} → Participant.onCrash (participantOf r i) ≡ To p x → Cause r (Crash (suc i)) (participantTo i p x r)

@@ -68,13 +68,13 @@ caused-counts r p (delivers {m} {i} b) l = uncounted r p (Deliver m (suc i)) (re
 caused-counts r p (copies {m} {i} b) l = uncounted r p (Copy m (suc i)) (receive m i r) (receive-calls m i r) refl
 caused-counts r p (loses {m} {i}) l = uncounted r p (Lose m (suc i)) (moved (drop m i r)) refl refl
 caused-counts r p (answered {i} {j} {l = g} {p = d} {x} a) l =
-    counted r p (suc i) (Step.Call (suc i) (suc j)) (participantTo i d x (called (suc i) j (g .log) r)) l (to-calls i d x (called (suc i) j (g .log) r)) refl
+    counted r p (suc i) (Step.Call (suc i) (suc j)) _ l (to-calls i d x (called (suc i) j (g .log) r)) refl
     (participant-due i d x (called (suc i) j (g .log) r))
-caused-counts r p (lost {i} {j} {l = g} a) l = counted r p (suc i) (Step.CallLost (suc i) (suc j)) (moved (called (suc i) j (g .log) r)) l refl refl refl
+caused-counts r p (lost {i} {j} {l = g} a) l = counted r p (suc i) (Step.CallLost (suc i) (suc j)) _ l refl refl refl
 caused-counts r p (coordinator-answered {j} {l = g} {c} {x} a) l =
-    counted r p zero (Step.Call zero (suc j)) (coordinatorTo c x (called 0 j (g .log) r)) l (coordinator-calls c x (called 0 j (g .log) r)) refl
+    counted r p zero (Step.Call zero (suc j)) _ l (coordinator-calls c x (called 0 j (g .log) r)) refl
     (coordinator-due c x (called 0 j (g .log) r))
-caused-counts r p (coordinator-lost {j} {l = g} a) l = counted r p zero (Step.CallLost zero (suc j)) (moved (called 0 j (g .log) r)) l refl refl refl
+caused-counts r p (coordinator-lost {j} {l = g} a) l = counted r p zero (Step.CallLost zero (suc j)) _ l refl refl refl
 caused-counts r p (times-out {i} {p = d} {x} q) l = uncounted r p (Timeout (suc i)) (participantTo i d x r) (to-calls i d x r) refl
 caused-counts r p (crashes {i} {p = d} {x} q) l = uncounted r p (Crash (suc i)) (participantTo i d x r) (to-calls i d x r) refl
 caused-counts r p (restarts {i} {p = d} {x} q) l = uncounted r p (Restart (suc i)) (participantTo i d x r) (to-calls i d x r) refl

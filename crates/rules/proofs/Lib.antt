@@ -21,3 +21,5 @@ pub mod Cut
 pub mod Counts
 pub mod Room
 pub mod Idle
+pub mod Closed
+pub mod Bytes

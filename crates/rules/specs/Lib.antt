@@ -6,3 +6,4 @@ pub mod Due
 pub mod Run
 pub mod Demand
 pub mod Range
+pub mod Closed

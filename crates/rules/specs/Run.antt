@@ -1,17 +1,20 @@
 -- A run over a list of steps: each step gets the state that the one before it left. Assumes nothing.
 use mathlib.Core.Path.{_≡_}
 use mathlib.Core.Bool.{Bool, false, cond, _&&_}
-use mathlib.Core.List.{List, [], _∷_}
+use mathlib.Core.List.{List, [], _∷_, map}
 use Prim.Native.Nat.{ℕ, _+_, _<_}
 use lib.Dec.{eqb}
 use lib.ListN.{length, getD}
 use Rattle.rules.specs.Step.{step, isDue}
-use Rattle.rules.specs.Types.{Release, Step, Start, Deliver, Copy, Lose, Timeout, Crash, Restart, Outcome}
+use Rattle.rules.specs.Types.{Release, Step, Start, Deliver, Copy, Lose, Timeout, Crash, Restart, Outcome, Report}
 
--- the outcomes reported, step by step
+-- what the steps report, step by step, and their outcomes
+abbrev pub reports : Release → List Step → List Report
+reports r [] = []
+reports r (s ∷ ss) = step r s ∷ reports (step r s .next) ss
+
 abbrev pub outcomes : Release → List Step → List Outcome
-outcomes r [] = []
-outcomes r (s ∷ ss) = step r s .outcome ∷ outcomes (step r s .next) ss
+outcomes r steps = map (λ (t : Report). t .outcome) (reports r steps)
 
 -- the release after the last step
 abbrev pub after : Release → List Step → Release

@@ -8,15 +8,15 @@ use Rattle.store.specs.Log.{perform}
 use Rattle.participant.specs.Participant
 use Rattle.coordinator.specs.Coordinator
 use Rattle.rules.specs.State.{participantOf, logOf, messagePlace, maskOf, inFlight}
-use Rattle.rules.specs.Report.{moves, known, coordinatorKnown, learnt}
+use Rattle.rules.specs.Report.{moves, known, coordinatorKnown, learnt, closes, withClosed}
 use Rattle.rules.specs.Types.{LogPair, Logged, Performed, Message, Sent, Decision, Participant, Transition, NotDue, To, Coordinator, CoordinatorTransition, Release, Step, Start, Deliver, Copy, Lose, Timeout, Crash, Restart, Outcome, Report}
 
 -- A step not due changes nothing and the run goes on
 abbrev pub idle : Release → Report
-idle r = record { outcome = Outcome.Idle; next = r }
+idle r = record { outcome = Outcome.Idle; closed = false; next = r }
 
 abbrev pub moved : Release → Report
-moved r = record { outcome = Outcome.Moved; next = r }
+moved r = record { outcome = Outcome.Moved; closed = false; next = r }
 
 -- messages: sending one twice is once
 
@@ -45,7 +45,7 @@ withParticipant i p r =
 
 unfoldable pub participantTo : ℕ → Participant → Sent → Release → Report
 participantTo i p s r =
-    record { outcome = learnt (known (participantOf r i)) (known p); next = withParticipant i p (reply s i r) }
+    record { outcome = learnt (known (participantOf r i)) (known p); closed = false; next = withParticipant i p (reply s i r) }
 
 abbrev pub participantGoes : ℕ → Transition → Release → Report
 participantGoes i NotDue r = idle r
@@ -63,7 +63,7 @@ withCoordinator c r =
 
 unfoldable pub coordinatorTo : Coordinator → Sent → Release → Report
 coordinatorTo c s r =
-    record { outcome = learnt (coordinatorKnown (r .coordinator)) (coordinatorKnown c); next = withCoordinator c (broadcast s r) }
+    record { outcome = learnt (coordinatorKnown (r .coordinator)) (coordinatorKnown c); closed = false; next = withCoordinator c (broadcast s r) }
 
 abbrev pub coordinatorGoes : CoordinatorTransition → Release → Report
 coordinatorGoes CoordinatorTransition.NotDue r = idle r
@@ -96,8 +96,8 @@ called p j l r = withLog j l (counted p r)
 
 abbrev pub participantAnswered : Bool → ℕ → ℕ → Logged → Transition → Release → Report
 participantAnswered heard i j x NotDue r = idle r
-participantAnswered true i j x (To p s) r = participantTo i p s (called (suc i) j (x .log) r)
-participantAnswered false i j x (To p s) r = moved (called (suc i) j (x .log) r)
+participantAnswered true i j x (To p s) r = withClosed (closes (suc i) j x) (participantTo i p s (called (suc i) j (x .log) r))
+participantAnswered false i j x (To p s) r = withClosed (closes (suc i) j x) (moved (called (suc i) j (x .log) r))
 
 abbrev pub participantPerformed : Bool → ℕ → ℕ → Performed → Release → Report
 participantPerformed heard i j Performed.Refused r = idle r
@@ -109,8 +109,8 @@ participantCalls heard i j r = participantPerformed heard i j (perform (Particip
 
 abbrev pub coordinatorAnswered : Bool → ℕ → Logged → CoordinatorTransition → Release → Report
 coordinatorAnswered heard j x CoordinatorTransition.NotDue r = idle r
-coordinatorAnswered true j x (CoordinatorTransition.To c s) r = coordinatorTo c s (called 0 j (x .log) r)
-coordinatorAnswered false j x (CoordinatorTransition.To c s) r = moved (called 0 j (x .log) r)
+coordinatorAnswered true j x (CoordinatorTransition.To c s) r = withClosed (closes 0 j x) (coordinatorTo c s (called 0 j (x .log) r))
+coordinatorAnswered false j x (CoordinatorTransition.To c s) r = withClosed (closes 0 j x) (moved (called 0 j (x .log) r))
 
 abbrev pub coordinatorPerformed : Bool → ℕ → Performed → Release → Report
 coordinatorPerformed heard j Performed.Refused r = idle r

@@ -36,8 +36,9 @@ pub enum Outcome {
     Abort,
 }
 
-// A step's outcome, and the release after it.
+// A step's outcome, whether it closed another's log, and the release after it.
 pub struct Report {
     pub outcome: Outcome,
+    pub closed: bool,
     pub next: Release,
 }

@@ -9,7 +9,7 @@ abbrev pub AnswersLast : Performed → Type 0
 AnswersLast Performed.Refused = Unit {0}
 AnswersLast (Performed.Done x) = x .answer ≡ x .log .last
 
-log-answers : (b : Bool) (l : LogPair) → AnswersLast (cond b (Performed.Done (leaves l)) Performed.Refused)
+log-answers : (b : Bool) (l : LogPair) → AnswersLast (cond b (Performed.Done (leaves false l)) Performed.Refused)
 log-answers true l = refl
 log-answers false l = tt
 

@@ -1,22 +1,24 @@
 -- The log entries: what each hands over, for every log and record. Order: 5, 8, 9. Assumes nothing.
-use mathlib.Core.Bool.{cond}
+use mathlib.Core.Path.{_≡_}
+use mathlib.Core.Bool.{Bool, false, cond, not, _&&_}
 use Prim.Native.Nat.{ℕ}
 use Rattle.number.specs.Refusal.{accepted, outOfRange, wrongRecord, refusedByRule}
 use Rattle.store.specs.Types.{LogRecord, None, Yes, Abort, Commit, LogPair, Logged, Performed, EntryAnswer}
-use Rattle.store.specs.Log.{recordNumber, isAllowed, logOnce, log}
+use Rattle.store.specs.Log.{recordNumber, isNone, isAllowed, logOnce, log}
 
--- the refusal's number or 0, the number of the record answered or 0, and the log
+-- the refusal's number or 0, the number of the record answered or 0, whether this call wrote the first record, and the log
 pub record Handed : Type 0 where
   pub number : ℕ
   pub answer : ℕ
+  pub wrote : Bool
   pub log : LogPair
 
 abbrev pub done : Logged → Handed
-done x = record { number = accepted; answer = recordNumber (x .answer); log = x .log }
+done x = record { number = accepted; answer = recordNumber (x .answer); wrote = x .wrote; log = x .log }
 
--- a refusal hands the log back as given
+-- a refusal hands the log back as given, not written
 abbrev pub refused : ℕ → LogPair → Handed
-refused k l = record { number = k; answer = 0; log = l }
+refused k l = record { number = k; answer = 0; wrote = false; log = l }
 
 -- what each case of the answer stands for
 abbrev pub handed : EntryAnswer → Handed
@@ -48,3 +50,12 @@ logTakes Commit l = logHands (log Commit l) l
 
 abbrev pub logEntry : LogPair → LogRecord → Handed
 logEntry l r = cond (isAllowed l) (logTakes r l) (refused outOfRange l)
+
+-- An entry says that its call wrote just where the log had no first record before and has one afterwards. Proved in proofs/Wrote.antt
+
+abbrev pub writesFirst : LogPair → LogPair → Bool
+writesFirst before after = isNone (before .first) && not (isNone (after .first))
+
+abbrev pub WroteAsWritten : Type 0
+WroteAsWritten =
+    (l : LogPair) (r : LogRecord) → (logOnceEntry l r .wrote ≡ writesFirst l (logOnceEntry l r .log)) × (logEntry l r .wrote ≡ writesFirst l (logEntry l r .log))

@@ -1,7 +1,7 @@
 // The store: write-once logs, the calls LogOnce and Log, and the two log entries.
 ghost use mathlib.Core.Path.{_≡_};
 ghost use lib.ListN.{getD, set, replicate};
-ghost use Rattle.store.specs.Log.{recordNumber, recordOf, isRecord, empty, places, isAllowed, logOnce, replaces, log, perform};
+ghost use Rattle.store.specs.Log.{recordNumber, recordOf, isRecord, empty, places, isAllowed, logOnce, replaces, log, perform, wroteAbort};
 ghost use Rattle.store.specs.Entry.{handed, logOnceEntry, logHands, logEntry};
 
 // How many logs a store has: one for each participant that it has room for.
@@ -33,9 +33,10 @@ pub enum Call {
     Log(LogRecord),
 }
 
-// What a call leaves: its answer, and the log afterwards.
+// What a call leaves: its answer, whether it wrote the first record, and the log afterwards.
 pub struct Logged {
     pub answer: LogRecord,
+    pub wrote: bool,
     pub log: LogPair,
 }
 
@@ -125,18 +126,22 @@ impl LogPair {
         match first {
             LogRecord::None => Logged {
                 answer: r,
+                wrote: true,
                 log: LogPair { first: r, last: r },
             },
             LogRecord::Yes => Logged {
                 answer: last,
+                wrote: false,
                 log: self,
             },
             LogRecord::Abort => Logged {
                 answer: last,
+                wrote: false,
                 log: self,
             },
             LogRecord::Commit => Logged {
                 answer: last,
+                wrote: false,
                 log: self,
             },
         }
@@ -173,6 +178,7 @@ impl LogPair {
         if self.replaceable(r) {
             Performed::Done(Logged {
                 answer: r,
+                wrote: false,
                 log: LogPair {
                     first: first,
                     last: r,
@@ -233,6 +239,25 @@ impl LogPair {
             }
         } else {
             EntryAnswer::OutOfRange(self)
+        }
+    }
+}
+
+impl Logged {
+    // Whether the call wrote the first record, an abort.
+    pub fn wrote_abort(self) -> bool
+        ensures { λ b. ⌜ b ≡ wroteAbort self ⌝ }
+    {
+        let answer = self.answer;
+        if self.wrote {
+            match answer {
+                LogRecord::None => false,
+                LogRecord::Yes => false,
+                LogRecord::Abort => true,
+                LogRecord::Commit => false,
+            }
+        } else {
+            false
         }
     }
 }

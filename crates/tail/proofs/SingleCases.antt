@@ -5,13 +5,13 @@ use Prim.Native.Nat.{ℕ}
 use Rattle.number.specs.Refusal.{accepted, outOfRange, notDue}
 use Rattle.number.proofs.Laws.{and-true, and-false, false-and}
 use Rattle.kind.specs.Step.{stepOf, numbersInRange}
-use Rattle.rules.specs.Report.{outcomeNumber, moves}
+use Rattle.rules.specs.Report.{moves, stepByte}
 use Rattle.rules.specs.Step.{step}
 use Rattle.tail.specs.Tail.{tailOf, releaseOf, tailInRange}
 use Rattle.tail.specs.Single.{refused, handed, singleStep}
 use Rattle.tail.specs.Types.{Tail, Report, Stepped}
 
-pub handed-moved : (t : Tail) (r : Report) (x : Tail) (k : ℕ) → moves (r .outcome) ≡ true → x ≡ tailOf (r .next) → k ≡ outcomeNumber (r .outcome)
+pub handed-moved : (t : Tail) (r : Report) (x : Tail) (k : ℕ) → moves (r .outcome) ≡ true → x ≡ tailOf (r .next) → k ≡ stepByte r
     → _≡_ {A = Stepped} (record { number = accepted; state = x; byte = k }) (handed t r)
 handed-moved t r x k m p q = rw (m, p, q) refl
 

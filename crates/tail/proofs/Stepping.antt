@@ -1,6 +1,6 @@
 -- The single step takes the rules' step on the numbers of its release. Assumes nothing.
-use mathlib.Core.Path.{_≡_, refl, ap₂, _∙_}
-use mathlib.Core.Bool.{true}
+use mathlib.Core.Path.{_≡_, refl, ap, ap₂, _∙_}
+use mathlib.Core.Bool.{Bool, true}
 use mathlib.Core.List.{List}
 use Prim.Native.Nat.{ℕ}
 use native.Mathlib.Omega.{arith}
@@ -24,14 +24,15 @@ module _ (t : Tail) (m : length (t .messages) ≡ 5) (k : length (t .calls) ≡ 
   pub can-count : CanCount l
   can-count p g = rw (e, count-in (releaseOf t) tail-places p g) (countable t k q p)
 
-  module _ (s : Step) (o : Outcome) (after : List ℕ) (before next : Store) (b : before ≡ releaseOf t .store) (leads : Steps (t .n) (λ r. step r s) l before o after next) where
-    led : (o ≡ step (releaseOf t) s .outcome) × (after ≡ fields (step (releaseOf t) s .next)) × (next ≡ step (releaseOf t) s .next .store)
+  module _ (s : Step) (o : Outcome) (c : Bool) (after : List ℕ) (before next : Store) (b : before ≡ releaseOf t .store) (leads : Steps (t .n) (λ r. step r s) l before o c after next) where
+    led : (o ≡ step (releaseOf t) s .outcome) × (after ≡ fields (step (releaseOf t) s .next)) × (next ≡ step (releaseOf t) s .next .store) × (c ≡ step (releaseOf t) s .closed)
     led = leads (releaseOf t) tail-places refl e b
 
     pub same-outcome : o ≡ step (releaseOf t) s .outcome
     same-outcome = led .0
 
-    pub same-report : (x : Release) → x ≡ releaseIn after next → _≡_ {A = Report} (record { outcome = o; next = x }) (step (releaseOf t) s)
+    pub same-report : (x : Release) → x ≡ releaseIn after next → _≡_ {A = Report} (record { outcome = o; closed = c; next = x }) (step (releaseOf t) s)
     same-report x y =
-        ap₂ (λ (x : Outcome) (r : Release). record { outcome = x; next = r }) same-outcome
+        ap (λ (z : Bool). record { outcome = o; closed = z; next = x }) (led .3)
+        ∙ ap₂ (λ (x : Outcome) (r : Release). record { outcome = x; closed = step (releaseOf t) s .closed; next = r }) same-outcome
         (y ∙ ap₂ releaseIn (led .1) (led .2) ∙ release-in (step (releaseOf t) s .next) (step-places (releaseOf t) s tail-places) (λ p. omega (arith, one-call-more (releaseOf t) s p, countable t k q p)))

@@ -8,7 +8,7 @@ use Rattle.mask.specs.Mask.{within}
 use Rattle.store.specs.Log.{places}
 use Rattle.kind.specs.Step.{stepNumber, firstNumber, secondNumber, stepOf, inRange, numbersInRange, AllInRange}
 use Rattle.rules.specs.State.{fresh}
-use Rattle.rules.specs.Report.{outcomeNumber, moves}
+use Rattle.rules.specs.Report.{moves, stepByte}
 use Rattle.rules.specs.Step.{step}
 use Rattle.rules.specs.Run.{after, Countable}
 use Rattle.tail.specs.Tail.{tailOf, releaseOf, tailInRange}
@@ -20,7 +20,7 @@ refused k t = record { number = k; state = t; byte = 0 }
 
 -- the report byte and the next state; 7 where the step is not due
 abbrev pub handed : Tail → Report → Stepped
-handed t r = cond (moves (r .outcome)) (record { number = accepted; state = tailOf (r .next); byte = outcomeNumber (r .outcome) }) (refused notDue t)
+handed t r = cond (moves (r .outcome)) (record { number = accepted; state = tailOf (r .next); byte = stepByte r }) (refused notDue t)
 
 -- Order: 5, 7
 abbrev pub singleStep : Tail → ℕ → ℕ → ℕ → Stepped

@@ -49,7 +49,7 @@ impl Tail {
             Stepped {
                 number: 0,
                 state: state,
-                byte: report_byte(outcome),
+                byte: report_byte(outcome, stepped.closed),
             }
         } else {
             self.refused(NOT_DUE)

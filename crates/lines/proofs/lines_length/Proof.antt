@@ -11,7 +11,7 @@ use Rattle.lines.proofs.lines_length.Tie as tie
 
 -- the lines counted and those left are all lines; the bound keeps the sum from wrapping
 abbrev Inv-loop : tie.InvT-loop
-Inv-loop bytes total₀ i₀ total i = (i ≤ length bytes) × (total ≤ 13 * i) × (total + length (linesFrom bytes i) ≡ length (byteLines 1 bytes))
+Inv-loop bytes total₀ i₀ total i = (i ≤ length bytes) × (total ≤ 20 * i) × (total + length (linesFrom bytes i) ≡ length (byteLines 1 bytes))
 
 abbrev μ-loop : tie.MeasureT-loop
 μ-loop bytes total₀ i₀ total i = length bytes - i

@@ -70,7 +70,7 @@ run-steps-spec =
     (λ c. let x = here (c .before .before .before .before .before .before .before .before) in omega (arith, size-here (c .before .before .before .before), fits (c .before .before .before .before .before .before .before .before .before .loop .inv .3) (c .before .before .before .before .before .before .before .before .loop-test .taken) (x .found) (x .size) (x .read)))
     (λ c. search needs)
     (λ c. let x = here (c .before .before .before .before .before .before .before .before) in let at = c .before .before .before .before .before .before .before .before .before in let args = at .before .before .before .before .before .args in let f = read-first (args .schedule .now) (at .loop .inv .0) (at .loop .at) (c .before .before .before .before .before .before .before .before .loop-test .taken) (x .found) (x .size) (x .read) in omega (arith, size-here (c .before .before .before .before), f .some, f .within))
-    (λ c. let x = here (c .before .before .before .before .before .before .before .before) in let loop = c .before .before .before .before .before .before .before .before .before .loop in (loop .inv .0, loop .inv .1, loop .inv .2, rw (size-here (c .before .before .before .before), c .before .report-byte .ensures) (go-on (loop .inv .3) (c .before .before .before .before .before .before .before .before .loop-test .taken) (x .found) (x .size) (x .read) _ _ _ (rw (loop .inv .2, step-here (c .before .before .before .before .before .before)) at (c .before .before .step .ensures)))))
+    (λ c. let x = here (c .before .before .before .before .before .before .before .before) in let loop = c .before .before .before .before .before .before .before .before .before .loop in (loop .inv .0, loop .inv .1, loop .inv .2, rw (size-here (c .before .before .before .before), c .before .report-byte .ensures) (go-on (loop .inv .3) (c .before .before .before .before .before .before .before .before .loop-test .taken) (x .found) (x .size) (x .read) _ _ _ _ (rw (loop .inv .2, step-here (c .before .before .before .before .before .before)) at (c .before .before .step .ensures)))))
     (λ c κs. search needs)
     (λ c. c .before .before .before .loop .inv .3 .same)
     returns)

@@ -15,4 +15,4 @@ calls-spec =
     (λ c. search needs)
     (λ c κs. search needs)
     (λ c. rw (c .before .before .if1 .taken) (c .coordinator-calls .ensures))
-    (λ c. let start = c .before .before .before in numbered-log _ (λ p. calls (start .args .heard) p (suc (start .args .j))) _ _ _ _ _ _ (omega arith) (c .participant-calls .ensures)))
+    (λ c. let start = c .before .before .before in numbered-log _ (λ p. calls (start .args .heard) p (suc (start .args .j))) _ _ _ _ _ _ _ (omega arith) (c .participant-calls .ensures)))

@@ -11,5 +11,5 @@ coordinator-goes-spec =
     (λ c. search needs)
     (λ c. search needs)
     (λ c κs. search needs)
-    (λ c. rw (c .enum-told .given .1) (λ r h q e. (refl, e, refl)))
+    (λ c. rw (c .enum-told .given .1) (λ r h q e. (refl, e, refl, refl)))
     (λ c. rw (c .before .before .before .t .given .1) (c .coordinator-to .ensures)))

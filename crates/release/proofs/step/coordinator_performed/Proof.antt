@@ -18,4 +18,4 @@ coordinator-performed-spec =
     (λ c κs. search needs)
     (λ c κs. search needs)
     (λ c. rw (c .before .enum-told .given .1, c .new .ensures) (idles _ _ _))
-    (λ c. let start = c .before .before .before .before .before .before .before .before in rw (c .before .before .before .before .before .before .l .given .1) (reads-log _ 0 _ _ _ (lit< tt) (λ n v d p x. coordinatorAnswered (start .args .heard) (start .args .j) (c .before .before .before .before .before .before .l .given .0 .0) (Coordinator.onAnswer n d (start .args .j) (c .before .before .before .before .before .before .l .given .0 .0 .answer))) 0 _ _ (rw (c .before .answer .ensures, c .before .before .before .coordinator .ensures) at (c .coordinator-answered .ensures)))))
+    (λ c. let start = c .before .before .before .before .before .before .before .before in rw (c .before .before .before .before .before .before .l .given .1) (reads-log _ 0 _ _ _ (lit< tt) (λ n v d p x. coordinatorAnswered (start .args .heard) (start .args .j) (c .before .before .before .before .before .before .l .given .0 .0) (Coordinator.onAnswer n d (start .args .j) (c .before .before .before .before .before .before .l .given .0 .0 .answer))) 0 _ _ _ (rw (c .before .answer .ensures, c .before .before .before .coordinator .ensures) at (c .coordinator-answered .ensures)))))

@@ -11,5 +11,5 @@ participant-goes-spec =
     (λ c. search needs)
     (λ c. search needs)
     (λ c κs. search needs)
-    (λ c. rw (c .enum-told .given .1) (λ r h e. (refl, e, refl)))
+    (λ c. rw (c .enum-told .given .1) (λ r h e. (refl, e, refl, refl)))
     (λ c. rw (c .before .before .before .t .given .1) (c .participant-to .ensures)))
