@@ -1,14 +1,13 @@
 // What a step reports.
 use coordinator::Coordinator;
 use participant::Participant;
+use rules::CLOSED;
 use rules::Outcome;
-use store::LogRecord;
 use store::Logged;
 ghost use mathlib.Core.Path.{_≡_};
-ghost use mathlib.Core.Bool.{cond};
-ghost use Prim.Native.Nat.{_+_, _≤_, _<_};
+ghost use Prim.Native.Nat.{_≤_, _<_};
 ghost use Rattle.store.specs.Log.{places};
-ghost use Rattle.rules.specs.Report.{outcomeNumber, moves, known, coordinatorKnown, learnt, isAbort, closes};
+ghost use Rattle.rules.specs.Report.{outcomeNumber, moves, known, coordinatorKnown, learnt, closes, reportByte};
 
 // Whether the step was due.
 pub fn moves(o: Outcome) -> bool
@@ -36,34 +35,18 @@ fn outcome_number(o: Outcome) -> u8
 
 // The report byte.
 pub fn report_byte(o: Outcome, closed: bool) -> u8
-    ensures { λ k. ⌜ k ≡ outcomeNumber o + cond closed 4 0 ⌝ }
+    ensures { λ k. ⌜ k ≡ reportByte o closed ⌝ }
 {
     let k = outcome_number(o);
-    if closed { k + 4 } else { k }
+    if closed { k + CLOSED } else { k }
 }
 
-fn is_abort(r: LogRecord) -> bool
-    ensures { λ b. ⌜ b ≡ isAbort r ⌝ }
-{
-    match r {
-        LogRecord::None => false,
-        LogRecord::Yes => false,
-        LogRecord::Abort => true,
-        LogRecord::Commit => false,
-    }
-}
-
-// Whether party p, by a call on the log at place j that left this, closed another's log.
+// Whether party p closed another's log, by a call on the log at place j that left this.
 pub fn closes(p: u32, j: u32, l: Logged) -> bool
     requires { ⌜ j < places ⌝ }
     ensures { λ b. ⌜ b ≡ closes p j l ⌝ }
 {
-    let answer = l.answer;
-    if l.wrote {
-        if is_abort(answer) { p != j + 1 } else { false }
-    } else {
-        false
-    }
+    if l.wrote_abort() { p != j + 1 } else { false }
 }
 
 // What a participant knows of the decision.

@@ -28,6 +28,9 @@ pub struct Release {
     pub calls: [u16; PARTIES],
 }
 
+// What a step that closed another's log adds to its report byte.
+pub const CLOSED: u8 = 4;
+
 // What a step reports.
 pub enum Outcome {
     Idle,
