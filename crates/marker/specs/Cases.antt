@@ -8,7 +8,7 @@ use lib.ListN.{take}
 use Rattle.number.specs.Refusal.{emptyOrTooLong, bodyCutShort, headerMisplaced, outOfRange, refusedByRule}
 use Rattle.store.specs.Entry.{Handed, refused, logOnceEntry, logEntry}
 use Rattle.schedule.specs.Schedule.{Reading, Accepted, Refused, readSchedule}
-use Rattle.rules.specs.Report.{outcomeNumber}
+use Rattle.rules.specs.Report.{outcomeNumber, closedAdds}
 use Rattle.rules.specs.Run.{after}
 use Rattle.passes.specs.Pass.{freshOf, stepBytes}
 use Rattle.marker.specs.Types.{LogRecord, LogPair, Outcome}
@@ -49,8 +49,9 @@ commit = outcomeNumber Outcome.Commit
 abbrev abort : ℕ
 abort = outcomeNumber Outcome.Abort
 
+-- with the word `closed`
 abbrev closed : ℕ → ℕ
-closed k = k + 4
+closed k = k + closedAdds
 
 -- pairs of records, by their letters: n none, y yes, a abort, c commit
 

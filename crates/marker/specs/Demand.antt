@@ -1,9 +1,11 @@
--- Demand 3 about the marker's own bytes, and the counts of the tail: for every schedule that the run accepts, over what it leaves in the lent
--- report. Participant i is the one at place i. Proved in proofs/Demand.antt and proofs/Counts.antt. Assumes nothing.
+-- Demand 3 about the marker's own bytes, their word `closed`, and the counts of the tail: for every schedule that the run accepts, over what it
+-- leaves in the lent report. Participant i is the one at place i. Proved in proofs/Demand.antt, proofs/Closed.antt and proofs/Counts.antt. Assumes
+-- nothing.
 use mathlib.Core.Path.{_≡_}
-use mathlib.Core.Bool.{true}
+use mathlib.Core.Logic.{_≢_}
+use mathlib.Core.Bool.{Bool, true, _&&_}
 use mathlib.Core.List.{List, _++_}
-use Prim.Native.Nat.{ℕ, suc, _+_, _-_, _%_, _≤_, _<_}
+use Prim.Native.Nat.{ℕ, suc, _+_, _-_, _≤_, _<_}
 use lib.ListN.{length, getD, take, drop}
 use Rattle.mask.specs.Mask.{full}
 use Rattle.store.specs.Log.{places}
@@ -11,18 +13,20 @@ use Rattle.kind.specs.Step.{AllInRange}
 use Rattle.schedule.specs.Record.{headerInRange, longest}
 use Rattle.schedule.specs.Schedule.{Accepted, readSchedule, scheduleBytes}
 use Rattle.rules.specs.State.{firstOf}
-use Rattle.rules.specs.Report.{outcomeNumber}
+use Rattle.rules.specs.Report.{outcomeIn, closedIn}
+use Rattle.rules.specs.Step.{isDue}
 use Rattle.rules.specs.Run.{after, callsMade}
+use Rattle.rules.specs.Closed.{closesAnother}
 use Rattle.rules.specs.Demand.{EveryYes, SomeAbort, Up, AllUndisturbed, Decides, AllCalm}
 use Rattle.passes.specs.Pass.{freshOf, stepBytes}
-use Rattle.marker.specs.Types.{Step, Header, Written, Outcome}
+use Rattle.marker.specs.Types.{Step, Header, Release, Written, Outcome}
 use Rattle.layout.specs.Tail.{tailLength}
 use Rattle.layout.specs.Read.{countAt}
 use Rattle.marker.specs.Run.{runAnswers, runLeaves}
 
--- A decision is reported by a step whose byte, but for the 4 of a closed log, says commit or abort
+-- A decision is reported by a step whose byte says commit or abort
 abbrev pub Says : Outcome → ℕ → Type 0
-Says o b = b % 4 ≡ outcomeNumber o
+Says o b = outcomeIn b ≡ o
 
 -- `bytes` are the report's step bytes; the logs are looked at after that step
 pub record BytesHold (h : Header) (steps : List Step) (bytes : List ℕ) : Type 0 where
@@ -39,6 +43,19 @@ pub record BytesHold (h : Header) (steps : List Step) (bytes : List ℕ) : Type 
       → AllUndisturbed i (after (freshOf h) xs) (ys ++ zs) → Decides (after (freshOf h) xs) i ys zs
   -- with all votes yes and no timeout or restart, no abort is ever reported
   pub no-abort : h .votes ≡ full (h .n) → AllCalm (freshOf h) steps → (i : ℕ) → i < length bytes → Says Outcome.Abort (getD bytes i 0) → ⊥
+
+-- Request 2026-01: the byte of step i has the 4 just where that step is a due call of a party on a log that is not its own, empty before and abort
+-- afterwards; and 4 and 6 never occur
+
+abbrev pub closesAt : Header → List Step → ℕ → Bool
+closesAt h steps i =
+    let s : Step = getD steps i Step.Start in
+    let before : Release = after (freshOf h) (take i steps) in
+    isDue before s && closesAnother s before (after (freshOf h) (take (suc i) steps))
+
+pub record ClosedHold (h : Header) (steps : List Step) (bytes : List ℕ) : Type 0 where
+  pub closed : (i : ℕ) → i < length bytes → closedIn (getD bytes i 0) ≡ closesAt h steps i
+  pub never : (i : ℕ) → i < length bytes → (getD bytes i 0 ≢ 4) × (getD bytes i 0 ≢ 6)
 
 -- `tail` are the report's last 59 bytes: their counts, of two bytes, low first, are the due store calls that the rules' definition counts over the schedule
 abbrev pub CountsHold : Header → List Step → List ℕ → Type 0
@@ -58,6 +75,7 @@ pub record Marked (report schedule : List ℕ) (written : ℕ) : Type 0 where
   pub accepted : readSchedule schedule ≡ Accepted header steps
   pub length-written : written ≡ length steps + tailLength
   pub bytes : BytesHold header steps (stepsLeft report schedule written)
+  pub closed : ClosedHold header steps (stepsLeft report schedule written)
   pub counts : CountsHold header steps (tailLeft report schedule written)
 
 -- every run that is accepted

@@ -1,7 +1,7 @@
 -- What holds while the steps run: the rest of the schedule, from the release and the report as they are, gives what the whole gives from the
 -- start. Assumes nothing.
 use mathlib.Core.Path.{_≡_, refl, sym, ap, ap₂, _∙_}
-use mathlib.Core.Bool.{Bool, true, cond}
+use mathlib.Core.Bool.{Bool, true}
 use mathlib.Core.List.{List, _∷_}
 use Prim.Native.Nat.{ℕ, _+_, _≤_, _<_}
 use native.Mathlib.Omega.{arith}
@@ -15,7 +15,7 @@ use Rattle.schedule.specs.Reader.{readerAnswers, stepAt, lengthAt}
 use Rattle.schedule.specs.Schedule.{withStep}
 use Rattle.schedule.proofs.Laws.{header-size}
 use Rattle.schedule.proofs.Records.{read-untested}
-use Rattle.rules.specs.Report.{outcomeNumber, stepByte}
+use Rattle.rules.specs.Report.{reportByte, stepByte}
 use Rattle.rules.specs.Step.{step}
 use Rattle.rules.specs.Run.{after}
 use Rattle.state.specs.Fields.{fields, HasPlaces, releaseIn}
@@ -98,7 +98,7 @@ module _ {s : List ℕ} {h : Header} {start count : ℕ} {out₀ out : List ℕ}
 
     -- one turn
     pub go-on : (o : Outcome) (b : Bool) (k : List ℕ) (t : Store) → Steps (h .n) (λ r. step r (recordStep x)) l store o b k t
-        → Going s h start count out₀ (set out i (outcomeNumber o + cond b 4 0)) (at + size) (i + 1) k t
+        → Going s h start count out₀ (set out i (reportByte o b)) (at + size) (i + 1) k t
     go-on o b k t leads =
         let r : Release = g .release in
         let led = leads r (g .has-places) (g .same-n) (g .numbers) (g .stored) in
@@ -109,7 +109,7 @@ module _ {s : List ℕ} {h : Header} {start count : ℕ} {out₀ out : List ℕ}
           within = first .within;
           few = omega (arith, g .few, first .some);
           short = g .short;
-          same = length-set out i (outcomeNumber o + cond b 4 0) ∙ g .same;
+          same = length-set out i (reportByte o b) ∙ g .same;
           room = g .room;
           header = g .header;
           release = next;
@@ -121,7 +121,7 @@ module _ {s : List ℕ} {h : Header} {start count : ℕ} {out₀ out : List ℕ}
           left = sym (count-more i (recordStep x) (readingFrom s h (at + size))) ∙ here;
           ends = ap (after r) (sym steps) ∙ g .ends;
           report =
-              ap₂ (λ (y : Outcome) (z : Bool). sets (set out i (outcomeNumber y + cond z 4 0)) (i + 1) (stepBytes next rest)) (led .0) (led .3)
+              ap₂ (λ (y : Outcome) (z : Bool). sets (set out i (reportByte y z)) (i + 1) (stepBytes next rest)) (led .0) (led .3)
               ∙ ap (λ j. sets (set out i byte) j (stepBytes next rest)) (add-one i)
               ∙ ap (λ y. sets out i (stepBytes r y)) (sym steps)
               ∙ g .report;

@@ -1,7 +1,7 @@
 -- What the bytes of steps say: the outcome and the word `closed`, and that 4 and 6 never occur. Assumes nothing.
 use mathlib.Core.Path.{_≡_, refl, sym, ap, ap₂, subst, _∙_}
 use mathlib.Core.Logic.{_≢_}
-use mathlib.Core.Bool.{Bool, true, false, cond, not, _&&_}
+use mathlib.Core.Bool.{Bool, true, false, cond, not}
 use Prim.Native.Nat.{ℕ, suc}
 use native.Mathlib.Omega.{arith}
 use lib.Dec.{eqb}
@@ -11,11 +11,11 @@ use Rattle.store.specs.Log.{isAbort, replaces, leaves, perform, wroteAbort}
 use Rattle.participant.specs.Participant
 use Rattle.coordinator.specs.Coordinator
 use Rattle.rules.specs.State.{participantOf, logOf}
-use Rattle.rules.specs.Report.{outcomeNumber, outcomeOf, known, coordinatorKnown, learnt, closes, reportByte, stepByte, outcomeIn, closedIn}
-use Rattle.rules.specs.Step.{called, drop, participantTo, coordinatorTo, receive, step}
-use Rattle.rules.specs.Closed.{ClosedBytes, ClosedBytesHold, ByteSays}
+use Rattle.rules.specs.Report.{outcomeNumber, outcomeOf, known, coordinatorKnown, learnt, closes, reportByte, outcomeIn, closedIn}
+use Rattle.rules.specs.Step.{called, drop, participantTo, coordinatorTo, step}
+use Rattle.rules.specs.Closed.{ClosedBytesHold, ByteSays}
 use Rattle.rules.specs.Types.{LogRecord, None, Yes, Abort, Commit, LogPair, Call, Logged, Performed, Participant, RecordingAbort, Transition, NotDue, To, Sent, Coordinator, CoordinatorTransition, Step, Release, Outcome, Report}
-use Rattle.rules.proofs.Cases.{AnswerCases, answer-cases, coordinator-answer-cases, enters-cases}
+use Rattle.rules.proofs.Cases.{answer-cases, coordinator-answer-cases, enters-cases}
 use Rattle.rules.proofs.Causes.{Cause, ParticipantCall, CoordinatorCall, idles, starts, delivers, copies, loses, answered, lost, coordinator-answered, coordinator-lost, times-out, crashes, restarts, coordinator-times-out, coordinator-crashes, coordinator-restarts, cause}
 use Rattle.rules.proofs.Closed.{to-closed, coordinator-closed, receive-closed}
 

@@ -1,10 +1,8 @@
 -- `release::step::coordinator_answered` meets its contract, case by case. Assumes nothing.
-use mathlib.Core.Path.{_≡_, refl, sym, _∙_}
-use Prim.Native.Nat.{_+_}
+use mathlib.Core.Path.{refl}
 use native.Mathlib.Omega.{arith}
-use native.Mathlib.Numerals.{add-one}
 use Rattle.rules.specs.Step.{moved}
-use Rattle.release.proofs.Leading.{under, idles, after-call}
+use Rattle.release.proofs.Leading.{idles, after-call}
 use borrow.Author.Needs.{needs}
 use Rattle.release.proofs.step.coordinator_answered.Statement.{statement}
 use Rattle.release.proofs.step.coordinator_answered.Tie as tie
