@@ -1,12 +1,11 @@
 -- What the loops over a report's bytes use of the lines: the first line and those after it, lengths, and lines put one after the other.
 -- Assumes nothing.
 use mathlib.Core.Path.{_≡_, refl, sym, ap, _∙_}
-use mathlib.Core.Bool.{Bool, true, false, cond}
+use mathlib.Core.Bool.{Bool, true, false}
 use mathlib.Core.List.{List, [], _∷_, _++_, append-assoc}
-use Prim.Native.Nat.{ℕ, suc, _+_, _*_, _%_, _≤_, _<_}
+use Prim.Native.Nat.{ℕ, suc, _+_, _*_, _≤_, _<_}
 use native.Mathlib.Numerals.{add-one}
 use native.Mathlib.Omega.{arith}
-use lib.Dec.{eqb, leb}
 use lib.ListN.{length, getD, drop, length-append, drop-of-length-le}
 use lib.Seq.{sets, length-sets, drop-cons}
 use borrow.Author.Tests.{le-leb, lt-leb}
@@ -15,9 +14,9 @@ use Rattle.text.specs.Text.{decimal}
 use Rattle.text.specs.Put.{Put}
 use Rattle.text.proofs.Laws.{decimal-length}
 use Rattle.schedule.specs.Record.{longest}
+use Rattle.rules.specs.Report.{closedAdds, outcomeIn, closedIn}
 use Rattle.lines.specs.Types.{Outcome}
-use Rattle.lines.specs.Lines.{outcomeText, closedText, wordText}
-use Rattle.lines.specs.Lines.{byteText, byteLines}
+use Rattle.lines.specs.Lines.{outcomeText, closedText, byteText, byteLines}
 
 -- the lines of what is left before byte i
 abbrev pub linesFrom : List ℕ → ℕ → List ℕ
@@ -27,31 +26,27 @@ pub no-lines : byteLines 1 [] ≡ []
 unfolding byteLines
 no-lines = refl
 
-pub word-few : (k : ℕ) → length (wordText k) ≤ 7
-word-few k = few (eqb k 0) (eqb k 1) (eqb k 2)
-  where
-    few : (x y z : Bool)
-        → length (cond x (outcomeText Outcome.Idle) (cond y (outcomeText Outcome.Moved) (cond z (outcomeText Outcome.Commit) (outcomeText Outcome.Abort)))) ≤ 7
-    few true y z = omega arith
-    few false true z = omega arith
-    few false false true = omega arith
-    few false false false = omega arith
+pub word-few : (o : Outcome) → length (outcomeText o) ≤ 7
+word-few Outcome.Idle = omega arith
+word-few Outcome.Moved = omega arith
+word-few Outcome.Commit = omega arith
+word-few Outcome.Abort = omega arith
 
-closed-few : (b : Bool) → length (closedText b) ≤ 8
+closed-few : (closed : Bool) → length (closedText closed) ≤ 8
 closed-few true = omega arith
 closed-few false = omega arith
 
-pub byte-long : (b : ℕ) → length (byteText b) ≡ length (wordText (b % 4)) + length (closedText (leb 4 b))
-byte-long b = length-append (wordText (b % 4)) (closedText (leb 4 b))
+pub byte-long : (b : ℕ) → length (byteText b) ≡ length (outcomeText (outcomeIn b)) + length (closedText (closedIn b))
+byte-long b = length-append (outcomeText (outcomeIn b)) (closedText (closedIn b))
 
-pub closed-yes : (b : ℕ) → 4 ≤ b → closedText true ≡ closedText (leb 4 b)
-closed-yes b h = rw (le-leb 4 b h) refl
+pub closed-yes : (b : ℕ) → closedAdds ≤ b → closedText true ≡ closedText (closedIn b)
+closed-yes b h = rw (le-leb closedAdds b h) refl
 
-pub closed-no : (b : ℕ) → b < 4 → closedText false ≡ closedText (leb 4 b)
-closed-no b h = rw (lt-leb 4 b h) refl
+pub closed-no : (b : ℕ) → b < closedAdds → closedText false ≡ closedText (closedIn b)
+closed-no b h = rw (lt-leb closedAdds b h) refl
 
 pub byte-few : (b : ℕ) → length (byteText b) ≤ 15
-byte-few b = omega (arith, length-append (wordText (b % 4)) (closedText (leb 4 b)), word-few (b % 4), closed-few (leb 4 b))
+byte-few b = omega (arith, byte-long b, word-few (outcomeIn b), closed-few (closedIn b))
 
 pub number-few : (k l : ℕ) → l ≡ length (decimal k) → k ≤ longest → l ≤ 5
 number-few k l e h = rw e (decimal-length 5 k (omega arith) (omega arith))

@@ -1,13 +1,13 @@
 -- The parts of a listing's lines: what follows a step's number, a count, a log. Assumes nothing.
-use mathlib.Core.Bool.{Bool, true, false, cond}
+use mathlib.Core.Bool.{Bool, true, false}
 use mathlib.Core.List.{List, [], _∷_, _++_}
-use Prim.Native.Nat.{ℕ, suc, _%_}
-use lib.Dec.{eqb, leb}
+use Prim.Native.Nat.{ℕ, suc}
 use Rattle.text.specs.Text.{ascii, decimal}
-use Rattle.rules.specs.Report.{outcomeNumber}
+use Rattle.rules.specs.Report.{outcomeIn, closedIn}
 use Rattle.lines.specs.Types.{LogRecord, LogPair, Outcome, Report}
 
--- idle, moved, commit or abort; and `closed`
+-- idle, moved, commit or abort; after a space `closed`, by request 2026-01
+
 abbrev pub outcomeText : Outcome → List ℕ
 outcomeText Outcome.Idle = ascii " idle"
 outcomeText Outcome.Moved = ascii " moved"
@@ -38,14 +38,8 @@ logText l = ascii " " ++ (recordText (l .first) ++ recordText (l .last))
 
 -- A line a step by the report's bytes, as the code has them
 
-abbrev pub wordText : ℕ → List ℕ
-wordText k =
-    cond (eqb k (outcomeNumber Outcome.Idle)) (outcomeText Outcome.Idle)
-    (cond (eqb k (outcomeNumber Outcome.Moved)) (outcomeText Outcome.Moved)
-    (cond (eqb k (outcomeNumber Outcome.Commit)) (outcomeText Outcome.Commit) (outcomeText Outcome.Abort)))
-
 abbrev pub byteText : ℕ → List ℕ
-byteText b = wordText (b % 4) ++ closedText (leb 4 b)
+byteText b = outcomeText (outcomeIn b) ++ closedText (closedIn b)
 
 unfoldable pub byteLines : ℕ → List ℕ → List ℕ
 byteLines k [] = []

@@ -1,4 +1,5 @@
 // The lines of a listing. Each function puts its text at a place that has room for it, and answers the place after it.
+use rules::CLOSED;
 use rules::PARTIES;
 use store::LOGS;
 use store::LogPair;
@@ -12,17 +13,18 @@ ghost use lib.ListN.{length, take};
 ghost use Rattle.text.specs.Put.{Put, each};
 ghost use Rattle.store.specs.Log.{places};
 ghost use Rattle.schedule.specs.Record.{longest};
-ghost use Rattle.lines.specs.Lines.{countText, recordText, logText, wordText, byteText, byteLines};
+ghost use Rattle.rules.specs.Report.{outcomeOf};
+ghost use Rattle.lines.specs.Lines.{outcomeText, countText, recordText, logText, byteText, byteLines};
 
 // The length of an outcome's word, by its number.
 fn word_length(k: u8) -> usize
-    ensures { λ l. ⌜ l ≡ length (wordText k) ⌝ }
+    ensures { λ l. ⌜ l ≡ length (outcomeText (outcomeOf k)) ⌝ }
 {
     match k {
-        0 => 5,
         1 => 6,
         2 => 7,
-        _ => 6,
+        3 => 6,
+        _ => 5,
     }
 }
 
@@ -30,19 +32,19 @@ fn word_length(k: u8) -> usize
 fn byte_length(b: u8) -> usize
     ensures { λ l. ⌜ l ≡ length (byteText b) ⌝ }
 {
-    let word = word_length(b % 4);
-    if 4 <= b { word + 8 } else { word + 1 }
+    let word = word_length(b % CLOSED);
+    if CLOSED <= b { word + 8 } else { word + 1 }
 }
 
 fn put_word(text: &mut [u8], place: usize, k: u8) -> usize
-    requires { ⌜ place + length (wordText k) ≤ length (now text) ⌝ }
-    ensures { λ end. ⌜ Put (now (text .entry)) place (wordText k) end (now (text .exit)) ⌝ }
+    requires { ⌜ place + length (outcomeText (outcomeOf k)) ≤ length (now text) ⌝ }
+    ensures { λ end. ⌜ Put (now (text .entry)) place (outcomeText (outcomeOf k)) end (now (text .exit)) ⌝ }
 {
     match k {
-        0 => put(text, place, b" idle"),
         1 => put(text, place, b" moved"),
         2 => put(text, place, b" commit"),
-        _ => put(text, place, b" abort"),
+        3 => put(text, place, b" abort"),
+        _ => put(text, place, b" idle"),
     }
 }
 
@@ -50,8 +52,8 @@ fn put_byte(text: &mut [u8], place: usize, b: u8) -> usize
     requires { ⌜ place + length (byteText b) ≤ length (now text) ⌝ }
     ensures { λ end. ⌜ Put (now (text .entry)) place (byteText b) end (now (text .exit)) ⌝ }
 {
-    let at = put_word(text, place, b % 4);
-    if 4 <= b {
+    let at = put_word(text, place, b % CLOSED);
+    if CLOSED <= b {
         put(text, at, b" closed\n")
     } else {
         put(text, at, b"\n")

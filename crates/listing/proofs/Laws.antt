@@ -1,6 +1,6 @@
 -- What the proofs of this crate use of the definitions: the lengths of their parts, and a line a step by bytes and by outcomes. Assumes nothing.
 use mathlib.Core.Path.{_≡_, refl, ap, ap₂}
-use mathlib.Core.Bool.{Bool, true, false, cond}
+use mathlib.Core.Bool.{Bool}
 use mathlib.Core.List.{List, [], _∷_, _++_, map, append-assoc}
 use Prim.Native.Nat.{ℕ, zero, suc, _+_, _*_, _≤_, _<_}
 use native.Mathlib.Nat.{mul-suc}
@@ -9,29 +9,23 @@ use lib.ListN.{length, getD, take, length-append}
 use Rattle.text.specs.Text.{ascii, decimal}
 use Rattle.text.specs.Put.{each}
 use Rattle.text.proofs.Laws.{decimal-length}
-use Rattle.rules.specs.Report.{outcomeNumber, stepByte}
+use Rattle.rules.specs.Report.{stepByte}
+use Rattle.rules.proofs.Bytes.{byte-says}
 use Rattle.store.specs.Log.{places, empty}
-use Rattle.lines.specs.Lines.{outcomeText, closedText, countText, logText, byteText, byteLines}
+use Rattle.lines.specs.Lines.{outcomeText, closedText, reportText, countText, logText, byteText, byteLines}
 use Rattle.lines.proofs.Laws.{log-three}
 use Rattle.listing.specs.Types.{Release, Outcome, Report}
 use Rattle.listing.specs.Listing.{stepLines, callsLine, logsLine, endLines}
 
 -- A byte's line is its report's
 
-byte-report : (o : Outcome) (b : Bool) → byteText (outcomeNumber o + cond b 4 0) ≡ outcomeText o ++ closedText b
-byte-report Outcome.Idle true = refl
-byte-report Outcome.Idle false = refl
-byte-report Outcome.Moved true = refl
-byte-report Outcome.Moved false = refl
-byte-report Outcome.Commit true = refl
-byte-report Outcome.Commit false = refl
-byte-report Outcome.Abort true = refl
-byte-report Outcome.Abort false = refl
+byte-report : (t : Report) → byteText (stepByte t) ≡ reportText t
+byte-report t = ap₂ (λ (o : Outcome) (closed : Bool). outcomeText o ++ closedText closed) (byte-says t .0) (byte-says t .1)
 
 pub lines-reports : (k : ℕ) (ts : List Report) → byteLines k (map stepByte ts) ≡ stepLines k ts
 unfolding byteLines stepLines
 lines-reports k [] = refl
-lines-reports k (t ∷ ts) = ap₂ (λ (x y : List ℕ). decimal k ++ (x ++ y)) (byte-report (t .outcome) (t .closed)) (lines-reports (suc k) ts)
+lines-reports k (t ∷ ts) = ap₂ (λ (x y : List ℕ). decimal k ++ (x ++ y)) (byte-report t) (lines-reports (suc k) ts)
 
 -- Lengths
 
