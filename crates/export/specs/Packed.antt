@@ -1,5 +1,5 @@
 -- What is handed over as one number, for C. Assumes nothing.
-use mathlib.Core.Bool.{cond}
+use mathlib.Core.Bool.{Bool, cond}
 use Prim.Native.Nat.{ℕ, _+_, _*_, _%_}
 use lib.Dec.{eqb}
 use Rattle.number.specs.Refusal.{Handed, hands}
@@ -29,6 +29,10 @@ beforeOf told n votes = cond (eqb told 0) Before.Nothing (Before.Header (record 
 abbrev pub pairOf : ℕ → ℕ → LogPair
 pairOf first last = record { first = recordOf first; last = recordOf last }
 
+-- the record answered, and 4 more where the call wrote the first record
+abbrev pub answerPacked : ℕ → Bool → ℕ
+answerPacked answer wrote = answer + cond wrote 4 0
+
 -- the refusal's number or 0, the log's first and last record, the record answered
 abbrev pub entryPacked : Entry.Handed → ℕ
-entryPacked h = fourBytes (h .number) (recordNumber (h .log .first)) (recordNumber (h .log .last)) (h .answer)
+entryPacked h = fourBytes (h .number) (recordNumber (h .log .first)) (recordNumber (h .log .last)) (answerPacked (h .answer) (h .wrote))

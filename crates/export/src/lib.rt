@@ -18,13 +18,13 @@ use writer::write_record;
 ghost use mathlib.Core.Path.{_≡_};
 ghost use lib.ListN.{length};
 ghost use Rattle.number.specs.Refusal.{hands};
-ghost use Rattle.store.specs.Log.{recordOf};
+ghost use Rattle.store.specs.Log.{recordNumber, recordOf};
 ghost use Rattle.store.specs.Entry.{handed, logOnceEntry, logEntry};
 ghost use Rattle.schedule.specs.Reader.{readerAnswers};
 ghost use Rattle.writer.specs.Writer.{writtenHands, writerAnswers, writerLeaves};
 ghost use Rattle.marker.specs.Run.{runAnswers, runLeaves};
 ghost use Rattle.listing.specs.Listing.{listAnswers, listLeaves};
-ghost use Rattle.export.specs.Packed.{packed, fourBytes, readPacked, entryPacked, beforeOf, pairOf};
+ghost use Rattle.export.specs.Packed.{packed, fourBytes, readPacked, answerPacked, entryPacked, beforeOf, pairOf};
 
 // A refusal's number or 0 in the upper 32 bits, what is handed over with it in the lower ones.
 fn pack(number: u32, value: usize) -> u64
@@ -66,12 +66,25 @@ fn pack_read(r: Read) -> u64
     }
 }
 
-fn pack_log(number: u32, log: LogPair, answer: u32) -> u32
-    ensures { λ x. ⌜ x ≡ entryPacked (record { number = number; answer = answer; log = log }) ⌝ }
+// The record answered, and 4 more where the call wrote the first record.
+fn pack_answer(answer: LogRecord, wrote: bool) -> u32
+    ensures { λ x. ⌜ x ≡ answerPacked (recordNumber answer) wrote ⌝ }
+{
+    let number = answer.number();
+    if wrote { number + 4 } else { number }
+}
+
+fn pack_log(number: u32, log: LogPair, answer: LogRecord, wrote: bool) -> u32
+    ensures { λ x. ⌜ x ≡ entryPacked (record { number = number; answer = recordNumber answer; wrote = wrote; log = log }) ⌝ }
 {
     let first = log.first;
     let last = log.last;
-    four(number, first.number(), last.number(), answer)
+    four(
+        number,
+        first.number(),
+        last.number(),
+        pack_answer(answer, wrote),
+    )
 }
 
 fn pack_entry(a: EntryAnswer) -> u32
@@ -80,11 +93,11 @@ fn pack_entry(a: EntryAnswer) -> u32
     match a {
         EntryAnswer::Done(x) => {
             let answer = x.answer;
-            pack_log(0, x.log, answer.number())
+            pack_log(0, x.log, answer, x.wrote)
         }
-        EntryAnswer::OutOfRange(log) => pack_log(OUT_OF_RANGE, log, 0),
-        EntryAnswer::WrongRecord(log) => pack_log(WRONG_RECORD, log, 0),
-        EntryAnswer::RefusedByRule(log) => pack_log(REFUSED_BY_RULE, log, 0),
+        EntryAnswer::OutOfRange(log) => pack_log(OUT_OF_RANGE, log, LogRecord::None, false),
+        EntryAnswer::WrongRecord(log) => pack_log(WRONG_RECORD, log, LogRecord::None, false),
+        EntryAnswer::RefusedByRule(log) => pack_log(REFUSED_BY_RULE, log, LogRecord::None, false),
     }
 }
 

@@ -56,6 +56,6 @@ module _ (h : Header) (steps : List Step) (small : h .n ≤ places) (ranged : Al
         never =
             λ i l. (
               λ e. closed-bytes (before i (omega (arith, long))) (s i (omega (arith, long))) .never-4 (never-at i (omega (arith, long)) 4 e),
-              λ e. closed-bytes (before i (omega (arith, long))) (s i (omega (arith, long))) .never-6 (never-at i (omega (arith, long)) 6 e)
+              λ e. closed-bytes (before i (omega (arith, long))) (s i (omega (arith, long))) .never-6 (never-at i (omega (arith, long)) 6 e),
             );
       }
