@@ -8,7 +8,7 @@ use crate::proved;
 use crate::random::Random;
 use crate::reduce;
 use crate::replay::Programs;
-use crate::schedules::{random_schedule, schedule_of_length, LIMIT};
+use crate::schedules::{closed_at_the_end, random_schedule, schedule_of_length, LIMIT};
 use crate::whole::any_damaged;
 use second::Refusal;
 use std::fmt;
@@ -93,6 +93,8 @@ fn any_schedule(random: &mut Random, at: usize) -> Vec<u8> {
             let length = random.between(60, 600) as usize;
             schedule_of_length(random, length)
         }
+        // Random steps close a log long before its step's number has five digits.
+        5 if at == 5 => closed_at_the_end(random.between(1, 8) as u8, LIMIT - random.place(3)),
         2..=4 => any_damaged(random),
         _ => random_schedule(random, steps),
     }

@@ -8,7 +8,7 @@ use crate::proved;
 use crate::random::Random;
 use crate::reduce;
 use crate::schedules::any_header;
-use second::{Header, Log};
+use second::{Header, Log, Performed};
 use std::fmt;
 
 /// How many random cases a job has.
@@ -20,6 +20,8 @@ const EDGES: [u32; 6] = [127, 255, 256, 257, 65_536, u32::MAX];
 const PLACES: [u32; 9] = [0, 1, 2, 32_766, 32_767, 32_768, 32_769, 32_770, u32::MAX];
 /// Buffers of the greatest places end about here.
 const GREATEST: usize = 32_768;
+/// Added to the record that a log entry answers where the call wrote the log's first record.
+const WROTE: u32 = 4;
 /// Bytes for the reader.
 const BYTES: [u8; 15] = [0, 1, 2, 3, 4, 5, 6, 7, 8, 9, 10, 11, 127, 128, 255];
 
@@ -247,23 +249,27 @@ fn compare_logs(figures: &mut EntryFigures) -> Result<(), Difference> {
     Ok(())
 }
 
-/// The refusal's number that both sides answer. A refusal leaves the log as it was given.
+/// The refusal's number that both sides answer. A refusal leaves the log as it was given and answers
+/// no record, not written.
 fn agreed_log(
     name: &str,
     numbers: [u32; 3],
     proved: u32,
-    second: Result<(Log, u32), u32>,
+    second: Result<Performed, u32>,
 ) -> Result<u32, Difference> {
     let [first, last, record] = numbers;
     let expected = match second {
-        Ok((log, answer)) => [0, log.first, log.last, answer],
+        Ok(Performed { log, answer, wrote }) => {
+            [0, log.first, log.last, answer + WROTE * u32::from(wrote)]
+        }
         Err(number) => [number, first, last, 0],
     };
     if proved == packed_bytes(expected) {
         return Ok(expected[0]);
     }
     let words = |[number, first, last, answer]: [u32; 4]| {
-        format!("number {number}, log {first} {last}, answer {answer}")
+        let (record, wrote) = (answer % WROTE, answer / WROTE);
+        format!("number {number}, log {first} {last}, answer {record}, wrote {wrote}")
     };
     Err(Difference {
         input: format!("{name} of record {record} on log {first} {last}"),

@@ -1,7 +1,7 @@
 //! What the compared cases amount to, so that nobody needs to trust that they mean something.
 
 use crate::schedules::records;
-use second::Refusal;
+use second::{report, Refusal};
 use std::fmt;
 
 /// The length of a report's tail, and the place of the counts of calls in it.
@@ -38,6 +38,40 @@ impl fmt::Display for Numbers {
     }
 }
 
+/// The words of each report byte. Bytes 4 and 6 are counted too, to show that they never occur.
+const BYTE_WORDS: [&str; 8] = [
+    "idle",
+    "moved",
+    "commit",
+    "abort",
+    "idle closed",
+    "moved closed",
+    "commit closed",
+    "abort closed",
+];
+
+/// How often each report byte was given.
+#[derive(Clone, Copy, Default)]
+pub struct ReportBytes([u64; 8]);
+
+impl ReportBytes {
+    pub fn note(&mut self, byte: u8) {
+        self.0[usize::from(byte)] += 1;
+    }
+
+    pub fn add(&mut self, other: &ReportBytes) {
+        add(&mut self.0, &other.0);
+    }
+}
+
+impl fmt::Display for ReportBytes {
+    fn fmt(&self, to: &mut fmt::Formatter) -> fmt::Result {
+        let counted = self.0.iter().zip(BYTE_WORDS);
+        let words: Vec<String> = counted.map(|(n, words)| format!("{n} {words}")).collect();
+        write!(to, "{}", words.join(", "))
+    }
+}
+
 /// Adds the counts of `other` place by place.
 pub fn add(counts: &mut [u64], other: &[u64]) {
     for (count, more) in counts.iter_mut().zip(other) {
@@ -57,7 +91,7 @@ pub fn due_words(due: &[u64; 11]) -> String {
 #[derive(Clone, Copy, Default)]
 pub struct ScheduleFigures {
     numbers: Numbers,
-    report_bytes: [u64; 4],
+    report_bytes: ReportBytes,
     due: [u64; 11],
     with_commit: u64,
     with_abort: u64,
@@ -77,9 +111,9 @@ struct Ended {
 }
 
 impl Ended {
-    fn note(&mut self, n: u8, byte: u8) {
+    fn note(&mut self, n: u8, outcome: u8) {
         let eight = u64::from(n == 8);
-        if byte == 2 {
+        if outcome == report::COMMIT {
             self.commit += 1;
             self.commit_of_eight += eight;
         } else {
@@ -121,27 +155,32 @@ impl ScheduleFigures {
         let calls = tail[COUNTS..].chunks_exact(2);
         let most = calls.map(|count| u16::from_le_bytes([count[0], count[1]]));
         self.most_calls = self.most_calls.max(most.max().unwrap_or(0));
-        self.with_commit += u64::from(bytes.contains(&2));
-        self.with_abort += u64::from(bytes.contains(&3));
+        let has = |outcome| bytes.iter().any(|byte| report::outcome(*byte) == outcome);
+        self.with_commit += u64::from(has(report::COMMIT));
+        self.with_abort += u64::from(has(report::ABORT));
         for (record, byte) in records(&schedule[3..]).zip(bytes) {
             self.note_step(schedule[1], record, *byte);
         }
     }
 
     fn note_step(&mut self, n: u8, record: &[u8], byte: u8) {
-        self.report_bytes[usize::from(byte)] += 1;
-        self.due[usize::from(record[0])] += u64::from(byte > 0);
+        self.report_bytes.note(byte);
+        let outcome = report::outcome(byte);
+        self.due[usize::from(record[0])] += u64::from(outcome != report::IDLE);
+        if outcome != report::COMMIT && outcome != report::ABORT {
+            return;
+        }
         // A call on another's log that brings a decision ends a termination.
         match *record {
-            [6, 0, _] if byte >= 2 => self.coordinators_ended.note(n, byte),
-            [6, party, log] if byte >= 2 && party != log => self.participants_ended.note(n, byte),
+            [6, 0, _] => self.coordinators_ended.note(n, outcome),
+            [6, party, log] if party != log => self.participants_ended.note(n, outcome),
             _ => (),
         }
     }
 
     pub fn add(&mut self, other: &ScheduleFigures) {
         self.numbers.add(&other.numbers);
-        add(&mut self.report_bytes, &other.report_bytes);
+        self.report_bytes.add(&other.report_bytes);
         add(&mut self.due, &other.due);
         self.with_commit += other.with_commit;
         self.with_abort += other.with_abort;
@@ -158,12 +197,11 @@ impl ScheduleFigures {
 
 impl fmt::Display for ScheduleFigures {
     fn fmt(&self, to: &mut fmt::Formatter) -> fmt::Result {
-        let [idle, moved, commit, abort] = self.report_bytes;
         write!(
             to,
             "{} schedules, of these {}; up to {} bytes and {} calls of a party; \
              {} with a commit, {} with an abort; \
-             steps: {idle} idle, {moved} moved, {commit} commit, {abort} abort; {}; \
+             steps: {}; {}; \
              terminations that a call ended: coordinator {}, participant {}",
             self.schedules(),
             self.numbers,
@@ -171,6 +209,7 @@ impl fmt::Display for ScheduleFigures {
             self.most_calls,
             self.with_commit,
             self.with_abort,
+            self.report_bytes,
             due_words(&self.due),
             self.coordinators_ended,
             self.participants_ended

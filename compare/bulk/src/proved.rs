@@ -88,6 +88,8 @@ fn assert_records(numbers: [u32; 3]) {
 }
 
 /// The three numbers are the log's first and last record and the record of the call, each 0 to 3.
+/// The answer's bytes, lowest first, are the refusal's number or 0, the log's first and last record
+/// afterwards, and the record answered, plus 4 where the call wrote the log's first record.
 pub fn log_once_entry(numbers: [u32; 3]) -> u32 {
     assert_records(numbers);
     unsafe { compare_log_once(numbers[0], numbers[1], numbers[2]) }

@@ -272,6 +272,18 @@ pub fn random_schedule(random: &mut Random, steps: usize) -> Vec<u8> {
     bytes
 }
 
+/// A schedule of just this many bytes, at least 30, in which the coordinator closes every log at
+/// the end, the last one with its answer heard.
+pub fn closed_at_the_end(n: u8, length: usize) -> Vec<u8> {
+    let mut end = vec![8, 0];
+    end.extend((1..n).flat_map(|log| [7, 0, log]));
+    end.extend([6, 0, n]);
+    let mut bytes = vec![1, n, 0];
+    bytes.resize(length - end.len(), START);
+    bytes.extend(end);
+    bytes
+}
+
 /// A random schedule of just this many bytes, at least 3.
 pub fn schedule_of_length(random: &mut Random, length: usize) -> Vec<u8> {
     let mut run = Run::fresh(random, true);

@@ -2,7 +2,7 @@
 //! states in range that no run reaches.
 
 use crate::difference::{hexadecimal, Difference};
-use crate::figures::{add, due_words, Numbers};
+use crate::figures::{add, due_words, Numbers, ReportBytes};
 use crate::jobs;
 use crate::lent::pattern;
 use crate::proved;
@@ -29,7 +29,7 @@ type Stepped = (u32, [u8; ROOM]);
 #[derive(Clone, Copy, Default)]
 pub struct StepFigures {
     numbers: Numbers,
-    report_bytes: [u64; 4],
+    report_bytes: ReportBytes,
     due: [u64; 11],
     /// Calls whose Log would be refused.
     log_refused: u64,
@@ -43,7 +43,7 @@ impl StepFigures {
         self.numbers.note(number);
         match number {
             0 => {
-                self.report_bytes[byte as usize] += 1;
+                self.report_bytes.note(byte as u8);
                 self.due[step[0] as usize] += 1;
             }
             7 => self.note_call_not_due(tail, step),
@@ -69,7 +69,7 @@ impl StepFigures {
 
     fn add(&mut self, other: &StepFigures) {
         self.numbers.add(&other.numbers);
-        add(&mut self.report_bytes, &other.report_bytes);
+        self.report_bytes.add(&other.report_bytes);
         add(&mut self.due, &other.due);
         self.log_refused += other.log_refused;
         self.answer_unfit += other.answer_unfit;
@@ -82,13 +82,13 @@ impl StepFigures {
 
 impl fmt::Display for StepFigures {
     fn fmt(&self, to: &mut fmt::Formatter) -> fmt::Result {
-        let [_, moved, commit, abort] = self.report_bytes;
         write!(
             to,
-            "{} steps: {}; {moved} moved, {commit} commit, {abort} abort; {}; \
+            "{} steps: {}; {}; {}; \
              not due since Log would be refused: {}, since the state cannot get the answer: {}",
             self.calls(),
             self.numbers,
+            self.report_bytes,
             due_words(&self.due),
             self.log_refused,
             self.answer_unfit

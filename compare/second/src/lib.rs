@@ -1,5 +1,6 @@
-//! A second implementation of document 01: the store, the participant, the coordinator, the reader
-//! and writer of schedules, the marker that runs a schedule of one release, and the host entry.
+//! A second implementation of document 01 with request 2026-01: the store, the participant, the
+//! coordinator, the reader and writer of schedules, the marker that runs a schedule of one release,
+//! and the host entry.
 
 mod coordinator;
 mod host;
@@ -11,7 +12,7 @@ pub mod model;
 mod participant;
 mod refusal;
 mod release;
-mod report;
+pub mod report;
 mod schedule;
 mod store;
 mod tail;
@@ -22,5 +23,5 @@ pub use marker::run;
 pub use refusal::Refusal;
 pub use release::{is_due, single_step};
 pub use schedule::{read_record, write_record, Header, Record};
-pub use store::{log_entry, log_once_entry, Log};
+pub use store::{log_entry, log_once_entry, Log, Performed};
 pub use tail::{ParticipantFields, Tail};

@@ -22,8 +22,8 @@ fn report_lines(report: &[u8]) -> String {
     };
     let tail = Tail::from_bytes(tail_bytes);
     let mut text = String::new();
-    for (at, step) in steps.iter().enumerate() {
-        text += &format!("{} {}\n", at + 1, step_word(*step));
+    for (at, &byte) in steps.iter().enumerate() {
+        text += &format!("{} {}{}\n", at + 1, outcome_word(byte), closed_word(byte));
     }
     let n = tail.n as usize;
     text += "calls";
@@ -40,13 +40,21 @@ fn report_lines(report: &[u8]) -> String {
     text
 }
 
-fn step_word(step: u8) -> &'static str {
-    match step {
+fn outcome_word(byte: u8) -> &'static str {
+    match report::outcome(byte) {
         report::IDLE => "idle",
         report::MOVED => "moved",
         report::COMMIT => "commit",
         _ => "abort",
     }
+}
+
+/// The word with the space before it, where the step closed a log.
+fn closed_word(byte: u8) -> &'static str {
+    if report::has_closed(byte) {
+        return " closed";
+    }
+    ""
 }
 
 fn record_letter(record: u32) -> char {

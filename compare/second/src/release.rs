@@ -9,7 +9,7 @@ use crate::schedule::{
     Record, CALL_ANSWERED, CALL_ANSWER_LOST, CRASH, DELIVER, DELIVER_COPY, LOSE, RESTART, START,
     TIMEOUT,
 };
-use crate::store;
+use crate::store::{self, Performed};
 use crate::tail::Tail;
 
 /// Party 0; any other party is the participant of that number.
@@ -95,29 +95,41 @@ fn deliver(tail: &mut Tail, message: u32, participant: u32) -> u8 {
 fn coordinator_call(tail: &mut Tail, step: Record) -> Option<u8> {
     let log = step.second;
     let coordinator = tail.coordinator();
-    let (written, answer) = coordinator.call(log)?.perform(tail.log(log)).ok()?;
-    let next = coordinator.answer(log, answer)?;
-    tail.record_call(COORDINATOR, log, written);
+    let performed = coordinator.call(log)?.perform(tail.log(log)).ok()?;
+    let next = coordinator.answer(log, performed.answer)?;
+    tail.record_call(COORDINATOR, log, performed.log);
+    let closed = closed_part(COORDINATOR, log, performed);
     if step.kind == CALL_ANSWER_LOST {
-        return Some(report::MOVED);
+        return Some(report::MOVED + closed);
     }
-    Some(move_coordinator(tail, next))
+    Some(move_coordinator(tail, next) + closed)
 }
 
 /// A store call of a participant, its answer heard or lost.
 fn participant_call(tail: &mut Tail, step: Record) -> Option<u8> {
     let (own, log) = (step.first, step.second);
     let participant = tail.participant(own);
-    let (written, answer) = participant.call(log)?.perform(tail.log(log)).ok()?;
-    let (next, sent) = participant.answer(log, answer)?;
-    tail.record_call(own, log, written);
+    let performed = participant.call(log)?.perform(tail.log(log)).ok()?;
+    let (next, sent) = participant.answer(log, performed.answer)?;
+    tail.record_call(own, log, performed.log);
+    let closed = closed_part(own, log, performed);
     if step.kind == CALL_ANSWER_LOST {
-        return Some(report::MOVED);
+        return Some(report::MOVED + closed);
     }
     if sent != message::NO_MESSAGE {
         tail.send(sent, own);
     }
-    Some(move_participant(tail, next))
+    Some(move_participant(tail, next) + closed)
+}
+
+/// What a call adds to its byte: 4 where it wrote the first record, an abort, into a log not the
+/// party's own. No log has the coordinator's number, so none is its own.
+fn closed_part(party: u32, log: u32, performed: Performed) -> u8 {
+    let wrote_abort = performed.wrote && performed.log.first == store::ABORT;
+    if wrote_abort && party != log {
+        return report::CLOSED;
+    }
+    0
 }
 
 /// A timeout, crash or restart of the coordinator.

@@ -34,9 +34,20 @@ pub enum Call {
     Log(u32),
 }
 
+/// What a call that is not refused leaves and says.
+#[derive(Clone, Copy, PartialEq, Eq, Debug)]
+pub struct Performed {
+    /// The log afterwards.
+    pub log: Log,
+    /// The log's last record afterwards.
+    pub answer: u32,
+    /// Whether this call wrote the log's first record.
+    pub wrote: bool,
+}
+
 impl Call {
-    /// The log afterwards and the answer, or the refusal's number.
-    pub fn perform(self, log: Log) -> Result<(Log, u32), u32> {
+    /// What the call leaves and says, or the refusal's number.
+    pub fn perform(self, log: Log) -> Result<Performed, u32> {
         match self {
             Call::LogOnce(record) => log_once_entry(log, record),
             Call::Log(record) => log_entry(log, record),
@@ -44,8 +55,8 @@ impl Call {
     }
 }
 
-/// LogOnce: the log afterwards and the answer, or the refusal's number.
-pub fn log_once_entry(log: Log, record: u32) -> Result<(Log, u32), u32> {
+/// What LogOnce leaves and says, or the refusal's number.
+pub fn log_once_entry(log: Log, record: u32) -> Result<Performed, u32> {
     if !log.is_allowed() || record > COMMIT {
         return Err(OUT_OF_RANGE);
     }
@@ -53,17 +64,25 @@ pub fn log_once_entry(log: Log, record: u32) -> Result<(Log, u32), u32> {
         return Err(WRONG_RECORD);
     }
     if log.is_empty() {
-        let written = Log {
+        let log = Log {
             first: record,
             last: record,
         };
-        return Ok((written, record));
+        return Ok(Performed {
+            log,
+            answer: record,
+            wrote: true,
+        });
     }
-    Ok((log, log.last))
+    Ok(Performed {
+        log,
+        answer: log.last,
+        wrote: false,
+    })
 }
 
-/// Log: the log afterwards and the answer, or the refusal's number.
-pub fn log_entry(log: Log, record: u32) -> Result<(Log, u32), u32> {
+/// What Log leaves and says, or the refusal's number. It never writes a first record.
+pub fn log_entry(log: Log, record: u32) -> Result<Performed, u32> {
     if !log.is_allowed() || record > COMMIT {
         return Err(OUT_OF_RANGE);
     }
@@ -72,12 +91,13 @@ pub fn log_entry(log: Log, record: u32) -> Result<(Log, u32), u32> {
     }
     match (log.last, record) {
         (NONE, _) | (ABORT, COMMIT) | (COMMIT, ABORT) => Err(LOG_REFUSED),
-        _ => Ok((
-            Log {
+        _ => Ok(Performed {
+            log: Log {
                 last: record,
                 ..log
             },
-            record,
-        )),
+            answer: record,
+            wrote: false,
+        }),
     }
 }

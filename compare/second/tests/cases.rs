@@ -3,12 +3,13 @@
 mod common;
 
 use common::bytes;
-use second::{listing, log_entry, log_once_entry, run, Log, Refusal};
+use second::{listing, log_entry, log_once_entry, run, Log, Performed, Refusal};
 
 #[test]
 fn p1() {
     let schedule = bytes("01 02 03 02 03 01 01 06 01 01 08 01 06 01 02 06 01 01 03 01 02 06 02 02");
-    let expected = "1 moved\n2 moved\n3 moved\n4 moved\n5 abort\n6 moved\n7 moved\n8 abort\n\
+    let expected =
+        "1 moved\n2 moved\n3 moved\n4 moved\n5 abort closed\n6 moved\n7 moved\n8 abort\n\
                     calls 0 3 1\nlogs ya aa\n";
     assert_eq!(listing(&schedule), expected);
 }
@@ -30,8 +31,13 @@ fn p3() {
 #[test]
 fn p4_to_p6() {
     let log = |first, last| Log { first, last };
-    assert_eq!(log_once_entry(log(2, 2), 1), Ok((log(2, 2), 2)));
-    assert_eq!(log_once_entry(log(1, 3), 2), Ok((log(1, 3), 3)));
+    let kept = |log: Log| Performed {
+        log,
+        answer: log.last,
+        wrote: false,
+    };
+    assert_eq!(log_once_entry(log(2, 2), 1), Ok(kept(log(2, 2))));
+    assert_eq!(log_once_entry(log(1, 3), 2), Ok(kept(log(1, 3))));
     assert_eq!(log_entry(log(0, 0), 3), Err(9));
 }
 
@@ -60,7 +66,7 @@ fn tail_of_p1() {
     let mut report = [0xEE; 80];
     assert_eq!(run(&schedule, &mut report), Ok(67));
     let expected = bytes(
-        "01 01 01 01 03 01 01 03
+        "01 01 01 01 07 01 01 03
          02 03 01 00  00 01 02 00 00
          08 00 01 02  08 00 02 02
          00 00 00 00  00 00 00 00  00 00 00 00  00 00 00 00  00 00 00 00  00 00 00 00

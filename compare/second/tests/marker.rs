@@ -82,7 +82,7 @@ fn repeated_single_steps(header: Header, steps: &[Record]) -> Vec<u8> {
     for step in steps {
         match single_step(&tail, step.kind, step.first, step.second) {
             Ok((after, byte)) => {
-                assert_ne!(byte, 0);
+                assert!([1, 2, 3, 5, 7].contains(&byte));
                 tail = after;
                 report.push(byte);
             }
@@ -189,7 +189,7 @@ fn termination_hears_each_log_once_and_a_timeout_clears_it() {
     let vote = "02 03 01 01 03 01 02 06 01 01 06 02 02";
     let end = "08 01 06 01 02 06 01 02 08 01 06 01 02 06 01 03";
     let (steps, tail) = report(&format!("01 03 07 {vote} {end}"));
-    assert_eq!(steps, [1, 1, 1, 1, 1, 1, 1, 0, 1, 1, 3]);
+    assert_eq!(steps, [1, 1, 1, 1, 1, 1, 1, 0, 1, 1, 7]);
     assert_eq!(tail.participants[0].state, 6);
     assert_eq!(
         (tail.participants[2].first, tail.participants[2].last),
@@ -202,7 +202,7 @@ fn termination_hears_each_log_once_and_a_timeout_clears_it() {
 fn coordinator_terminates_over_all_logs() {
     let vote = "02 03 01 01 06 01 01 08 00 06 00 01 08 00 06 00 01 06 00 02";
     let (steps, tail) = report(&format!("01 02 03 {vote}"));
-    assert_eq!(steps, [1, 1, 1, 1, 1, 1, 1, 3]);
+    assert_eq!(steps, [1, 1, 1, 1, 1, 1, 1, 7]);
     assert_eq!((tail.state, tail.heard, tail.messages[4]), (4, 0, 3));
     assert_eq!(tail.calls[0], 3);
 }

@@ -5,17 +5,46 @@ mod common;
 
 use common::bytes;
 use second::model::{check, check_rules, Rules};
-use second::{single_step, Header, Record, Tail};
+use second::{report, single_step, Header, Record, Tail};
 
 const NO_VOTE: Header = Header { n: 1, votes: 0 };
 const YES_VOTE: Header = Header { n: 1, votes: 1 };
 const TWO_YES_VOTES: Header = Header { n: 2, votes: 3 };
+
+const CLOSED: &str =
+    "4 is added exactly where a party writes the first record, an abort, into a log not its own";
+const NEVER_4_OR_6: &str = "bytes 4 and 6 never occur";
 
 /// A step by the rules, in place; nothing if it is not due.
 fn by_the_rules(tail: &mut Tail, step: Record) -> Option<u8> {
     let (after, report) = single_step(tail, step.kind, step.first, step.second).ok()?;
     *tail = after;
     Some(report)
+}
+
+/// A step by the rules, but with the byte that `other` gives, told the state before and the rules'
+/// byte.
+fn with_byte(tail: &mut Tail, step: Record, other: impl Fn(&Tail, u8) -> u8) -> Option<u8> {
+    let before = *tail;
+    let byte = by_the_rules(tail, step)?;
+    Some(other(&before, byte))
+}
+
+fn is_call(step: Record) -> bool {
+    step.kind == 0x06 || step.kind == 0x07
+}
+
+/// Whether the log that a call names is empty.
+fn is_empty(tail: &Tail, call: Record) -> bool {
+    tail.participants[call.second as usize - 1].first == 0
+}
+
+/// Whether a participant in this state calls its own log, which is empty.
+fn writes_own_log(before: &Tail, step: Record, state: u32) -> bool {
+    is_call(step)
+        && step.first == step.second
+        && is_empty(before, step)
+        && before.participants[step.first as usize - 1].state == state
 }
 
 /// Asserts that a violation of this clause is found, with this schedule.
@@ -41,7 +70,10 @@ fn numbers_of_states() {
     let states = |n, votes| check(Header { n, votes }).map(|figures| figures.states);
     assert_eq!(states(1, 0), Ok(165));
     assert_eq!(states(1, 1), Ok(507));
-    assert_eq!(states(2, 1), states(2, 2));
+    assert_eq!(states(2, 0), Ok(5_621));
+    assert_eq!(states(2, 1), Ok(19_053));
+    assert_eq!(states(2, 2), Ok(19_053));
+    assert_eq!(states(2, 3), Ok(64_761));
 }
 
 #[test]
@@ -280,5 +312,167 @@ fn change_without_being_due() {
         rules,
         "a step not due changes nothing",
         "01 01 00 02 05 02 01",
+    );
+}
+
+#[test]
+fn own_log_reported_as_closed() {
+    let rules = |tail: &mut Tail, step: Record| {
+        with_byte(tail, step, |before, byte| {
+            if writes_own_log(before, step, 2) {
+                return byte + 4;
+            }
+            byte
+        })
+    };
+    assert_violated(NO_VOTE, rules, CLOSED, "01 01 00 08 01 06 01 01");
+}
+
+#[test]
+fn yes_vote_reported_as_closed() {
+    let rules = |tail: &mut Tail, step: Record| {
+        with_byte(tail, step, |before, byte| {
+            if writes_own_log(before, step, 1) {
+                return byte + 4;
+            }
+            byte
+        })
+    };
+    assert_violated(YES_VOTE, rules, CLOSED, "01 01 01 02 03 01 01 06 01 01");
+}
+
+#[test]
+fn lost_answer_without_the_word() {
+    let rules = |tail: &mut Tail, step: Record| {
+        with_byte(tail, step, |_, byte| match step.kind {
+            0x07 => report::outcome(byte),
+            _ => byte,
+        })
+    };
+    assert_violated(NO_VOTE, rules, CLOSED, "01 01 00 02 08 00 07 00 01");
+}
+
+#[test]
+fn closed_by_the_coordinator_without_the_word() {
+    let rules = |tail: &mut Tail, step: Record| {
+        with_byte(tail, step, |_, byte| match step.first {
+            0 => report::outcome(byte),
+            _ => byte,
+        })
+    };
+    assert_violated(NO_VOTE, rules, CLOSED, "01 01 00 02 08 00 06 00 01");
+}
+
+#[test]
+fn closed_by_a_participant_without_the_word() {
+    let rules = |tail: &mut Tail, step: Record| {
+        with_byte(tail, step, |_, byte| match step.first {
+            0 => byte,
+            _ => report::outcome(byte),
+        })
+    };
+    assert_violated(
+        TWO_YES_VOTES,
+        rules,
+        CLOSED,
+        "01 02 03 02 03 01 01 06 01 01 08 01 06 01 02",
+    );
+}
+
+#[test]
+fn written_log_reported_as_closed() {
+    let rules = |tail: &mut Tail, step: Record| {
+        with_byte(tail, step, |before, byte| {
+            let on_another = is_call(step) && step.first != step.second;
+            if on_another && !is_empty(before, step) {
+                return byte + 4;
+            }
+            byte
+        })
+    };
+    assert_violated(
+        NO_VOTE,
+        rules,
+        CLOSED,
+        "01 01 00 02 08 00 07 00 01 06 00 01",
+    );
+}
+
+#[test]
+fn delivered_abort_reported_as_closed() {
+    let rules = |tail: &mut Tail, step: Record| {
+        with_byte(tail, step, |_, byte| match (step.kind, byte) {
+            (0x03, 3) => byte + 4,
+            _ => byte,
+        })
+    };
+    assert_violated(
+        NO_VOTE,
+        rules,
+        CLOSED,
+        "01 01 00 02 03 01 01 06 01 01 03 03 01",
+    );
+}
+
+#[test]
+fn commit_reported_as_closed() {
+    let rules = |tail: &mut Tail, step: Record| {
+        with_byte(tail, step, |_, byte| match byte {
+            2 => byte + 4,
+            _ => byte,
+        })
+    };
+    assert_violated(
+        YES_VOTE,
+        rules,
+        NEVER_4_OR_6,
+        "01 01 01 02 03 01 01 06 01 01 03 02 01",
+    );
+}
+
+#[test]
+fn closed_by_a_lost_answer_reported_as_idle() {
+    let rules = |tail: &mut Tail, step: Record| {
+        with_byte(tail, step, |_, byte| match byte {
+            5 => 4,
+            _ => byte,
+        })
+    };
+    assert_violated(NO_VOTE, rules, NEVER_4_OR_6, "01 01 00 02 08 00 07 00 01");
+}
+
+#[test]
+fn yes_taken_for_a_closed_log() {
+    let rules = |tail: &mut Tail, step: Record| {
+        let report = by_the_rules(tail, step)?;
+        if (step.kind, step.first, report) == (0x06, 0, 2) {
+            (tail.state, tail.messages[3], tail.messages[4]) = (4, 0, 1);
+            return Some(7);
+        }
+        Some(report)
+    };
+    assert_violated(
+        YES_VOTE,
+        rules,
+        "an abort is reported only when some log's first record is an abort",
+        "01 01 01 02 03 01 01 08 00 06 01 01 06 00 01",
+    );
+}
+
+#[test]
+fn coordinator_that_does_not_wait() {
+    let rules = |tail: &mut Tail, step: Record| {
+        let report = by_the_rules(tail, step)?;
+        if step.kind == 0x02 {
+            tail.state = 2;
+        }
+        Some(report)
+    };
+    // The abort is one that closes a log.
+    assert_violated(
+        YES_VOTE,
+        rules,
+        "with all votes yes and no timeout or restart, no abort is ever reported",
+        "01 01 01 02 06 00 01",
     );
 }

@@ -1,9 +1,9 @@
-//! The clauses that are looked at after every step: the reported decisions, and the logs.
+//! The clauses that are looked at after every step: the report byte, the decisions, and the logs.
 
 use crate::model::state::Taken;
 use crate::participant::{CLOSING, RECORDING_ABORT, RECORDING_COMMIT, TERMINATING, VOTING_YES};
 use crate::report;
-use crate::schedule::{CALL_ANSWERED, CALL_ANSWER_LOST};
+use crate::schedule::{Record, CALL_ANSWERED, CALL_ANSWER_LOST};
 use crate::store::{Log, ABORT, COMMIT, NONE, YES};
 use crate::tail::Tail;
 
@@ -18,24 +18,31 @@ const NOT_DUE_LEAVES_ALL: &str = "a step not due changes nothing";
 const CALL_BY_ITS_RULE: &str = "a due store call leaves its log as its rule says";
 const LOGS_KEPT: &str = "only a due store call changes a log, and only its own";
 const LOST_ANSWER_UNHEARD: &str = "a lost answer changes nothing but the log";
+const NEVER_4_OR_6: &str = "bytes 4 and 6 never occur";
+const CLOSED_BY_ITS_RULE: &str =
+    "4 is added exactly where a party writes the first record, an abort, into a log not its own";
 const NO_ABORT: &str = "with all votes yes and no timeout or restart, no abort is ever reported";
 
 /// Checks one step of an exploration with all steps.
 pub fn check_step(taken: &Taken) -> Clause {
-    let Some(report) = taken.report else {
+    let Some(byte) = taken.report else {
         return holds(taken.after == *taken.before, NOT_DUE_LEAVES_ALL);
     };
-    match report {
+    holds(!matches!(byte, 4 | 6), NEVER_4_OR_6)?;
+    match report::outcome(byte) {
         report::COMMIT => check_commit(taken)?,
         report::ABORT => check_abort(taken)?,
         _ => (),
     }
-    check_logs(taken)
+    check_logs(taken)?;
+    let closes = is_closing(taken);
+    holds(report::has_closed(byte) == closes, CLOSED_BY_ITS_RULE)
 }
 
 /// Checks one step of an exploration without timeouts and restarts, all votes being yes.
 pub fn check_no_abort(taken: &Taken) -> Clause {
-    holds(taken.report != Some(report::ABORT), NO_ABORT)
+    let outcome = taken.report.map(report::outcome);
+    holds(outcome != Some(report::ABORT), NO_ABORT)
 }
 
 fn holds(condition: bool, clause: &'static str) -> Clause {
@@ -59,13 +66,26 @@ fn check_abort(taken: &Taken) -> Clause {
     holds(some_abort, ABORT_NEEDS_ABORT)
 }
 
+/// Whether this due step is a call of a party on a log that is not its own, empty before and with
+/// first record abort afterwards. The coordinator has no log, and its number is no log's.
+fn is_closing(taken: &Taken) -> bool {
+    let (party, log) = (taken.step.first, taken.step.second);
+    is_call(taken.step)
+        && party != log
+        && taken.before.tail.log(log).first == NONE
+        && taken.after.tail.log(log).first == ABORT
+}
+
+fn is_call(step: Record) -> bool {
+    matches!(step.kind, CALL_ANSWERED | CALL_ANSWER_LOST)
+}
+
 /// Checks what a due step does to the logs.
 fn check_logs(taken: &Taken) -> Clause {
     let (before, after) = (&taken.before.tail, &taken.after.tail);
-    let is_call = matches!(taken.step.kind, CALL_ANSWERED | CALL_ANSWER_LOST);
     let (party, called) = (taken.step.first, taken.step.second);
     for log in 1..=before.n {
-        if is_call && log == called {
+        if is_call(taken.step) && log == called {
             let expected = log_by_rule(before, party, before.log(log));
             holds(after.log(log) == expected, CALL_BY_ITS_RULE)?;
         } else {

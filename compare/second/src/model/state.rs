@@ -19,7 +19,7 @@ const RECORD_WIDTH: u32 = 2;
 #[derive(Clone, Copy, PartialEq, Eq, Debug)]
 pub struct State {
     pub tail: Tail,
-    /// The report byte commit or abort, or idle as long as no decision was reported.
+    /// The outcome commit or abort, or idle as long as no decision was reported.
     pub reported: u8,
 }
 
@@ -43,7 +43,8 @@ impl State {
         let mut after = *self;
         let report = rules(&mut after.tail, step);
         after.tail.calls = self.tail.calls;
-        if let Some(decision @ (report::COMMIT | report::ABORT)) = report {
+        let outcome = report.map(report::outcome);
+        if let Some(decision @ (report::COMMIT | report::ABORT)) = outcome {
             after.reported = decision;
         }
         Taken {
