@@ -26,6 +26,8 @@ cases =
     "1 moved\n2 moved\n3 moved\n4 commit\n5 moved\ncalls 0 2\nlogs yc\n"
     -- P3
     ∷ case (1 ∷ 2 ∷ 3 ∷ 9 ∷ 1 ∷ 10 ∷ 1 ∷ 6 ∷ 1 ∷ 1 ∷ []) "1 moved\n2 moved\n3 abort\ncalls 0 1 0\nlogs aa --\n"
+    -- the coordinator closes a log, its answer lost, and hears the abort in a second call
+    ∷ case (1 ∷ 1 ∷ 1 ∷ 2 ∷ 8 ∷ 0 ∷ 7 ∷ 0 ∷ 1 ∷ 6 ∷ 0 ∷ 1 ∷ []) "1 moved\n2 moved\n3 moved closed\n4 abort\ncalls 2 0\nlogs aa\n"
     -- P7, P8, P12 and P13
     ∷ case [] "refused 1 at 0\n"
     ∷ case (1 ∷ 8 ∷ 255 ∷ []) "calls 0 0 0 0 0 0 0 0 0\nlogs -- -- -- -- -- -- -- --\n"

@@ -2,8 +2,8 @@
 -- leaves in the lent report. Participant i is the one at place i. Proved in proofs/Demand.antt, proofs/Closed.antt and proofs/Counts.antt. Assumes
 -- nothing.
 use mathlib.Core.Path.{_≡_}
-use mathlib.Core.Logic.{_≢_}
-use mathlib.Core.Bool.{Bool, true, _&&_}
+use mathlib.Core.Logic.{_↔_, _≢_}
+use mathlib.Core.Bool.{true}
 use mathlib.Core.List.{List, _++_}
 use Prim.Native.Nat.{ℕ, suc, _+_, _-_, _≤_, _<_}
 use lib.ListN.{length, getD, take, drop}
@@ -14,12 +14,11 @@ use Rattle.schedule.specs.Record.{headerInRange, longest}
 use Rattle.schedule.specs.Schedule.{Accepted, readSchedule, scheduleBytes}
 use Rattle.rules.specs.State.{firstOf}
 use Rattle.rules.specs.Report.{outcomeIn, closedIn}
-use Rattle.rules.specs.Step.{isDue}
 use Rattle.rules.specs.Run.{after, callsMade}
-use Rattle.rules.specs.Closed.{closesAnother}
+use Rattle.rules.specs.Closed.{ClosesAnother}
 use Rattle.rules.specs.Demand.{EveryYes, SomeAbort, Up, AllUndisturbed, Decides, AllCalm}
 use Rattle.passes.specs.Pass.{freshOf, stepBytes}
-use Rattle.marker.specs.Types.{Step, Header, Release, Written, Outcome}
+use Rattle.marker.specs.Types.{Step, Header, Written, Outcome}
 use Rattle.layout.specs.Tail.{tailLength}
 use Rattle.layout.specs.Read.{countAt}
 use Rattle.marker.specs.Run.{runAnswers, runLeaves}
@@ -44,17 +43,11 @@ pub record BytesHold (h : Header) (steps : List Step) (bytes : List ℕ) : Type 
   -- with all votes yes and no timeout or restart, no abort is ever reported
   pub no-abort : h .votes ≡ full (h .n) → AllCalm (freshOf h) steps → (i : ℕ) → i < length bytes → Says Outcome.Abort (getD bytes i 0) → ⊥
 
--- Request 2026-01: the byte of step i has the 4 just where that step is a due call of a party on a log that is not its own, empty before and abort
--- afterwards; and 4 and 6 never occur
-
-abbrev pub closesAt : Header → List Step → ℕ → Bool
-closesAt h steps i =
-    let s : Step = getD steps i Step.Start in
-    let before : Release = after (freshOf h) (take i steps) in
-    isDue before s && closesAnother s before (after (freshOf h) (take (suc i) steps))
-
+-- Request 2026-01: a byte has the 4 just where its step is a due call of a party on a log that is not its own, empty before and abort afterwards;
+-- 4 and 6 never occur
 pub record ClosedHold (h : Header) (steps : List Step) (bytes : List ℕ) : Type 0 where
-  pub closed : (i : ℕ) → i < length bytes → closedIn (getD bytes i 0) ≡ closesAt h steps i
+  pub closed : (i : ℕ) → i < length bytes
+      → (closedIn (getD bytes i 0) ≡ true) ↔ ClosesAnother (after (freshOf h) (take i steps)) (getD steps i Step.Start) (after (freshOf h) (take (suc i) steps))
   pub never : (i : ℕ) → i < length bytes → (getD bytes i 0 ≢ 4) × (getD bytes i 0 ≢ 6)
 
 -- `tail` are the report's last 59 bytes: their counts, of two bytes, low first, are the due store calls that the rules' definition counts over the schedule

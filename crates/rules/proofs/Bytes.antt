@@ -17,7 +17,7 @@ use Rattle.rules.specs.Closed.{ClosedBytesHold, ByteSays}
 use Rattle.rules.specs.Types.{LogRecord, None, Yes, Abort, Commit, LogPair, Call, Logged, Performed, Participant, RecordingAbort, Transition, NotDue, To, Sent, Coordinator, CoordinatorTransition, Step, Release, Outcome, Report}
 use Rattle.rules.proofs.Cases.{answer-cases, coordinator-answer-cases, enters-cases}
 use Rattle.rules.proofs.Causes.{Cause, ParticipantCall, CoordinatorCall, idles, starts, delivers, copies, loses, answered, lost, coordinator-answered, coordinator-lost, times-out, crashes, restarts, coordinator-times-out, coordinator-crashes, coordinator-restarts, cause}
-use Rattle.rules.proofs.Closed.{to-closed, coordinator-closed, receive-closed}
+use Rattle.rules.proofs.Closed.{false-true, to-closed, coordinator-closed, receive-closed}
 
 -- A byte says what was reported
 
@@ -44,9 +44,6 @@ pub byte-says : ByteSays
 byte-says t = byte-back (t .outcome) (t .closed)
 
 -- A call that writes an abort into another's log, and is heard, gives its party the decision
-
-false-true : {A : Type 0} → false ≡ true → A
-false-true e = let z : _≡_ {A = ℕ} 0 1 = cc in absurd (omega arith)
 
 -- a participant that hears an abort, and was not recording one, learns it
 abbrev Learns : Participant → LogRecord → Transition → Type 0

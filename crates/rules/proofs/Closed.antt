@@ -1,23 +1,51 @@
 -- A step has the word `closed` just where request 2026-01 says so, by the logs before and after it. Assumes nothing.
-use mathlib.Core.Path.{_≡_, refl, sym, ap, _∙_}
+use mathlib.Core.Path.{_≡_, refl, sym, ap, subst, _∙_}
+use mathlib.Core.Logic.{_⊎_, inl, inr}
 use mathlib.Core.Bool.{Bool, true, false, cond, not, _&&_}
 use mathlib.Core.List.{List}
 use Prim.Native.Nat.{ℕ, zero, suc, _≤_, _<_}
 use native.Mathlib.Nat.{le-trans}
+use native.Mathlib.Omega.{arith}
 use lib.Dec.{eqb}
 use lib.ListN.{length, getD, set}
 use lib.Seq.{getD-set-same}
+use borrow.Author.Tests.{eqb-false, not-true, ne-eqb}
+use Rattle.number.proofs.Laws.{and-left, and-right, and-true}
 use Rattle.store.specs.Log.{empty, isNone, isAbort, replaces, leaves, perform, wroteAbort}
 use Rattle.participant.specs.Participant
 use Rattle.coordinator.specs.Coordinator
 use Rattle.rules.specs.State.{participantOf, logOf, firstOf}
 use Rattle.rules.specs.Report.{closes}
 use Rattle.rules.specs.Step.{called, drop, participantTo, coordinatorTo, coordinatorGoes, receive, step, isDue}
-use Rattle.rules.specs.Closed.{anotherClosed, closesAnother, ClosedAsWritten}
+use Rattle.rules.specs.Closed.{ClosesAnother, ClosedAsWritten}
 use Rattle.rules.specs.Types.{LogRecord, None, Yes, Abort, Commit, LogPair, Call, Logged, Performed, Participant, Sent, Coordinator, CoordinatorTransition, Message, Step, Start, Deliver, Copy, Lose, Timeout, Crash, Restart, Release, Report}
 use Rattle.rules.proofs.Bounds.{Bounds, bounds}
 use Rattle.rules.proofs.Causes.{Cause, idles, starts, delivers, copies, loses, answered, lost, coordinator-answered, coordinator-lost, times-out, crashes, restarts, coordinator-times-out, coordinator-crashes, coordinator-restarts, cause}
 use Rattle.rules.proofs.Idle.{idle-step}
+
+pub false-true : {A : Type 0} → false ≡ true → A
+false-true e = let z : _≡_ {A = ℕ} 0 1 = cc in absurd (omega arith)
+
+-- The word as tests, as the rules have it
+
+-- the log at place j is empty before and abort afterwards, and is not party p's own
+abbrev anotherClosed : ℕ → ℕ → Release → Release → Bool
+anotherClosed p j before after = (isNone (firstOf before j) && isAbort (firstOf after j)) && not (eqb p (suc j))
+
+abbrev callCloses : ℕ → ℕ → Release → Release → Bool
+callCloses p zero before after = false
+callCloses p (suc j) before after = anotherClosed p j before after
+
+abbrev closesAnother : Step → Release → Release → Bool
+closesAnother Start before after = false
+closesAnother (Deliver m p) before after = false
+closesAnother (Copy m p) before after = false
+closesAnother (Lose m p) before after = false
+closesAnother (Step.Call p q) before after = callCloses p q before after
+closesAnother (Step.CallLost p q) before after = callCloses p q before after
+closesAnother (Timeout p) before after = false
+closesAnother (Crash p) before after = false
+closesAnother (Restart p) before after = false
 
 -- A call that wrote an abort as the first record, by what it says and by the log
 
@@ -127,9 +155,65 @@ caused-closes r (coordinator-times-out {c} {x} q) h room = coordinator-closed c 
 caused-closes r (coordinator-crashes {c} {x} q) h room = coordinator-closed c x r
 caused-closes r (coordinator-restarts {c} {x} q) h room = coordinator-closed c x r
 
+-- The tests, and the words of the request
+
+is-none : (x : LogRecord) → isNone x ≡ true → x ≡ None
+is-none None e = refl
+is-none Yes e = false-true e
+is-none Abort e = false-true e
+is-none Commit e = false-true e
+
+is-abort : (x : LogRecord) → isAbort x ≡ true → x ≡ Abort
+is-abort None e = false-true e
+is-abort Yes e = false-true e
+is-abort Abort e = refl
+is-abort Commit e = false-true e
+
+module _ (r t : Release) where
+  -- a call, whether its answer is heard or lost
+  call-said : (s : Step) (p q : ℕ) → isDue r s ≡ true → callCloses p q r t ≡ true
+      → ((j : ℕ) → q ≡ suc j → (s ≡ Step.Call p (suc j)) ⊎ (s ≡ Step.CallLost p (suc j))) → ClosesAnother r s t
+  call-said s p zero due e call = false-true e
+  call-said s p (suc j) due e call =
+      let logs : isNone (firstOf r j) && isAbort (firstOf t j) ≡ true = and-left (isNone (firstOf r j) && isAbort (firstOf t j)) (not (eqb p (suc j))) e in
+      let other : not (eqb p (suc j)) ≡ true = and-right (isNone (firstOf r j) && isAbort (firstOf t j)) (not (eqb p (suc j))) e in
+      record {
+        party = p;
+        place = j;
+        call = call j refl;
+        due = due;
+        another = eqb-false p (suc j) (not-true (eqb p (suc j)) other);
+        before = is-none (firstOf r j) (and-left (isNone (firstOf r j)) (isAbort (firstOf t j)) logs);
+        after = is-abort (firstOf t j) (and-right (isNone (firstOf r j)) (isAbort (firstOf t j)) logs);
+      }
+
+  said : (s : Step) → isDue r s ≡ true → closesAnother s r t ≡ true → ClosesAnother r s t
+  said Start due e = false-true e
+  said (Deliver m p) due e = false-true e
+  said (Copy m p) due e = false-true e
+  said (Lose m p) due e = false-true e
+  said (Step.Call p q) due e = call-said (Step.Call p q) p q due e (λ j k. inl (ap (Step.Call p) k))
+  said (Step.CallLost p q) due e = call-said (Step.CallLost p q) p q due e (λ j k. inr (ap (Step.CallLost p) k))
+  said (Timeout p) due e = false-true e
+  said (Crash p) due e = false-true e
+  said (Restart p) due e = false-true e
+
+  tested : (s : Step) → ClosesAnother r s t → closesAnother s r t ≡ true
+  tested s x = go (x .call)
+    where
+      logs : anotherClosed (x .party) (x .place) r t ≡ true
+      logs = and-true _ _ (and-true _ _ (ap isNone (x .before)) (ap isAbort (x .after))) (ap not (ne-eqb (x .party) (suc (x .place)) (x .another)))
+
+      go : (s ≡ Step.Call (x .party) (suc (x .place))) ⊎ (s ≡ Step.CallLost (x .party) (suc (x .place))) → closesAnother s r t ≡ true
+      go (inl e) = subst (λ (z : Step). closesAnother z r t ≡ true) (sym e) logs
+      go (inr e) = subst (λ (z : Step). closesAnother z r t ≡ true) (sym e) logs
+
+-- a step that closes a log is due
+closed-due : (r : Release) (s : Step) (b : Bool) → isDue r s ≡ b → step r s .closed ≡ true → b ≡ true
+closed-due r s true d e = refl
+closed-due r s false d e = false-true (sym (ap (λ (t : Report). t .closed) (idle-step r s d)) ∙ e)
+
 pub closed-as-written : ClosedAsWritten
-closed-as-written r s room h = caused-closes r (cause r s) (bounds (r .n) s h) room ∙ due (isDue r s) refl
-  where
-    due : (b : Bool) → isDue r s ≡ b → closesAnother s r (step r s .next) ≡ b && closesAnother s r (step r s .next)
-    due true e = refl
-    due false e = ap (λ (t : Report). closesAnother s r (t .next)) (idle-step r s e) ∙ sym (idle-closes r s)
+closed-as-written r s room h =
+    let same : step r s .closed ≡ closesAnother s r (step r s .next) = caused-closes r (cause r s) (bounds (r .n) s h) room in
+    (λ e. said r (step r s .next) s (closed-due r s (isDue r s) refl e) (sym same ∙ e), λ x. same ∙ tested r (step r s .next) s x)

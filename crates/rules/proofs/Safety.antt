@@ -8,7 +8,7 @@ use Rattle.store.proofs.Laws.{perform-answers}
 use Rattle.participant.specs.Participant
 use Rattle.coordinator.specs.Coordinator
 use Rattle.rules.specs.State.{participantOf, logOf, firstOf, lastOf}
-use Rattle.rules.specs.Report.{closes, withClosed}
+use Rattle.rules.specs.Report.{withClosed}
 use Rattle.rules.specs.Step.{called, drop, moved, participantTo, participantGoes, coordinatorTo, coordinatorGoes, receive, step}
 use Rattle.kind.specs.Step.{inRange}
 use Rattle.rules.specs.Types.{LogRecord, LogPair, Call, Logged, Performed, Participant, Sent, Decision, Transition, NotDue, To, Coordinator, CoordinatorTransition, Message, Step, Release, Report}
@@ -133,16 +133,12 @@ module _ (r : Release) (j : ℕ) (x : Logged) (hj : j < r .n) (v : Inv r)
       (rw coordinator-answer-last (called-says r 0 j (x .log) v hj coordinator-change))
       (still (r .n) (called-keeps r 0 j (x .log) (coordinator-change .keep)) (coordinatorClaim (r .coordinator)) (v .coordinator-knows))
 
--- that it closes a log makes no difference
-closed-good : (r : Release) (b : Bool) (t : Report) → Good r t → Good r (withClosed b t)
-closed-good r b t g = record { inv = g .inv; same-n = g .same-n; keeps = g .keeps; backed = g .backed }
-
--- a due call is made, and what follows is good
-called-good : (r : Release) (p j : ℕ) (x : Logged) (t : Report) → Inv r → Change (r .n) (firstOf r) (participantOf r j) (logOf r j) (x .log)
-    → (Inv (called p j (x .log) r) → Good (called p j (x .log) r) t) → Good r (withClosed (closes p j x) t)
-called-good r p j x t v ch g =
-    closed-good r (closes p j x) t
-    (after-good r (called p j (x .log) r) t refl (called-keeps r p j (x .log) (ch .keep)) (g (called-inv r p j (x .log) v ch)))
+-- a due call is made, and what follows is good, whether or not the log was closed by it
+called-good : (r : Release) (p j : ℕ) (l : LogPair) (closed : Bool) (t : Report) → Inv r → Change (r .n) (firstOf r) (participantOf r j) (logOf r j) l
+    → (Inv (called p j l r) → Good (called p j l r) t) → Good r (withClosed closed t)
+called-good r p j l closed t v ch g =
+    let x = after-good r (called p j l r) t refl (called-keeps r p j l (ch .keep)) (g (called-inv r p j l v ch)) in
+    record { inv = x .inv; same-n = x .same-n; keeps = x .keeps; backed = x .backed }
 
 caused-good : (r : Release) {s : Step} {t : Report} → Cause r s t → Bounds (r .n) s → Inv r → Good r t
 caused-good r idles h v = idle-good r v
@@ -153,15 +149,15 @@ caused-good r (delivers {m} {i} b) h v =
 caused-good r (copies {m} {i} b) h v = receive-good r i (h .1) v m (v .tells m i (h .1) b)
 caused-good r (loses {m} {i}) h v = moved-good r (drop m i r) (drop-inv r m i v) refl (keeps-refl (logOf r))
 caused-good r (answered {i} {j} {l} {p} {x} a) h v =
-    called-good r (suc i) j l (participantTo i p x (called (suc i) j (l .log) r)) v (call-change r i j l (h .0) (h .2) v (a .done))
+    called-good r (suc i) j (l .log) _ (participantTo i p x (called (suc i) j (l .log) r)) v (call-change r i j l (h .0) (h .2) v (a .done))
     (λ w. goes-good (called (suc i) j (l .log) r) i (To p x) w (rw (a .answer) at (call-fits r i j l (h .0) (h .2) v (a .done))))
 caused-good r (lost {i} {j} {l} a) h v =
-    called-good r (suc i) j l (moved (called (suc i) j (l .log) r)) v (call-change r i j l (h .0) (h .2) v (a .done)) (λ w. moved-good _ _ w refl (keeps-refl _))
+    called-good r (suc i) j (l .log) _ (moved (called (suc i) j (l .log) r)) v (call-change r i j l (h .0) (h .2) v (a .done)) (λ w. moved-good _ _ w refl (keeps-refl _))
 caused-good r (coordinator-answered {j} {l} {c} {x} a) h v =
-    called-good r 0 j l (coordinatorTo c x (called 0 j (l .log) r)) v (coordinator-change r j l (h .2) v (a .done))
+    called-good r 0 j (l .log) _ (coordinatorTo c x (called 0 j (l .log) r)) v (coordinator-change r j l (h .2) v (a .done))
     (λ w. coordinator-goes-good (called 0 j (l .log) r) (CoordinatorTransition.To c x) w (rw (a .answer) at (coordinator-call-fits r j l (h .2) v (a .done))))
 caused-good r (coordinator-lost {j} {l} a) h v =
-    called-good r 0 j l (moved (called 0 j (l .log) r)) v (coordinator-change r j l (h .2) v (a .done)) (λ w. moved-good _ _ w refl (keeps-refl _))
+    called-good r 0 j (l .log) _ (moved (called 0 j (l .log) r)) v (coordinator-change r j l (h .2) v (a .done)) (λ w. moved-good _ _ w refl (keeps-refl _))
 caused-good r (times-out {i} {p} {x} q) h v =
     goes-good r i (To p x) v (rw q at (timeout-fits (r .n) (firstOf r) i (lastOf r i) (participantOf r i) (v .knows i h)))
 caused-good r (crashes {i} {p} {x} q) h v = goes-good r i (To p x) v (rw q at (crash-fits (r .n) (firstOf r) i (lastOf r i) (participantOf r i)))

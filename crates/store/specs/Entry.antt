@@ -1,10 +1,11 @@
 -- The log entries: what each hands over, for every log and record. Order: 5, 8, 9. Assumes nothing.
 use mathlib.Core.Path.{_≡_}
-use mathlib.Core.Bool.{Bool, false, cond, not, _&&_}
+use mathlib.Core.Logic.{_≢_}
+use mathlib.Core.Bool.{Bool, true, false, cond}
 use Prim.Native.Nat.{ℕ}
 use Rattle.number.specs.Refusal.{accepted, outOfRange, wrongRecord, refusedByRule}
 use Rattle.store.specs.Types.{LogRecord, None, Yes, Abort, Commit, LogPair, Logged, Performed, EntryAnswer}
-use Rattle.store.specs.Log.{recordNumber, isNone, isAllowed, logOnce, log}
+use Rattle.store.specs.Log.{recordNumber, isAllowed, logOnce, log}
 
 -- the refusal's number or 0, the number of the record answered or 0, whether this call wrote the first record, and the log
 pub record Handed : Type 0 where
@@ -51,11 +52,11 @@ logTakes Commit l = logHands (log Commit l) l
 abbrev pub logEntry : LogPair → LogRecord → Handed
 logEntry l r = cond (isAllowed l) (logTakes r l) (refused outOfRange l)
 
--- An entry says that its call wrote just where the log had no first record before and has one afterwards. Proved in proofs/Wrote.antt
+-- What a call hands over of log l says that it wrote where there was no first record before and is one afterwards; else the first record is as it was
+pub record SaysWrote (l : LogPair) (h : Handed) : Type 0 where
+  pub wrote : h .wrote ≡ true → (l .first ≡ None) × (h .log .first ≢ None)
+  pub not-wrote : h .wrote ≡ false → h .log .first ≡ l .first
 
-abbrev pub writesFirst : LogPair → LogPair → Bool
-writesFirst before after = isNone (before .first) && not (isNone (after .first))
-
+-- so do both entries, for every log and record. Proved in proofs/Wrote.antt
 abbrev pub WroteAsWritten : Type 0
-WroteAsWritten =
-    (l : LogPair) (r : LogRecord) → (logOnceEntry l r .wrote ≡ writesFirst l (logOnceEntry l r .log)) × (logEntry l r .wrote ≡ writesFirst l (logEntry l r .log))
+WroteAsWritten = (l : LogPair) (r : LogRecord) → SaysWrote l (logOnceEntry l r) × SaysWrote l (logEntry l r)

@@ -100,9 +100,19 @@ cases =
     ∷ case (sitesTail (fields 5 0 0 0) zero zero) 6 1 1 notDue 0
     ∷ case (sitesTail (fields 1 0 1 3) zero zero) 6 1 1 notDue 0
     ∷ case (sitesTail (fields 3 0 0 0) zero zero) 8 1 0 accepted 1
-    -- decisions: closing an empty log, and hearing the last yes
+    -- decisions: closing its own, empty log, and hearing the last yes
     ∷ case (sitesTail (fields 2 0 0 0) zero zero) 6 1 1 accepted 3
     ∷ case (sitesTail (fields 4 0 1 1) (fields 3 0 1 1) zero) 6 1 2 accepted 2
+    -- another's empty log closed by a participant and by the coordinator, the answer heard and lost
+    ∷ case (sitesTail (fields 4 0 1 1) zero zero) 6 1 2 accepted 7
+    ∷ case (sitesTail (fields 4 0 1 1) zero zero) 7 1 2 accepted 5
+    ∷ case (idleTail 2 3 2 0) 6 0 1 accepted 7
+    ∷ case (idleTail 2 3 2 0) 7 0 1 accepted 5
+    -- none closed: a log that has its abort, its own log, a yes vote
+    ∷ case (sitesTail (fields 4 0 1 1) (fields 8 0 2 2) zero) 6 1 2 accepted 3
+    ∷ case (sitesTail (fields 4 0 1 1) (fields 8 0 2 2) zero) 7 1 2 accepted 1
+    ∷ case (sitesTail (fields 2 0 0 0) zero zero) 7 1 1 accepted 1
+    ∷ case (sitesTail (fields 1 0 0 0) zero zero) 6 1 1 accepted 1
     ∷ []
 
 abbrev holds : Case → Bool
