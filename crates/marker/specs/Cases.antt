@@ -1,5 +1,5 @@
--- Document 01's cases P1 to P13: the schedule's bytes or the log call, and what it must give. One theorem covers the table: proofs/Cases.antt.
--- Assumes nothing.
+-- Document 01's cases P1 to P13, P1 as request 2026-01 amends it: the schedule's bytes or the log call, and what it must give. One theorem covers
+-- the table: proofs/Cases.antt. Assumes nothing.
 use mathlib.Core.Path.{_≡_}
 use mathlib.Core.Bool.{false}
 use mathlib.Core.List.{List, [], _∷_}

@@ -2,14 +2,14 @@
 use mathlib.Core.Path.{_≡_, refl, sym, ap, subst, _∙_}
 use mathlib.Core.Bool.{Bool, true, false, cond}
 use mathlib.Core.List.{List}
-use Prim.Native.Nat.{ℕ, zero, suc, _-_, _≤_, _<_}
+use Prim.Native.Nat.{ℕ, suc, _-_, _≤_, _<_}
 use native.Mathlib.Omega.{arith}
 use lib.ListN.{getD, set, length-set}
 use Rattle.mask.specs.Mask.{has, full}
 use Rattle.store.specs.Log.{empty, places}
 use Rattle.rules.specs.State.{messagePlace, maskOf, inFlight, participantOf, logOf}
 use Rattle.rules.specs.Report.{known, coordinatorKnown, learnt, withClosed}
-use Rattle.rules.specs.Step.{withMask, reply, broadcast, participantTo, coordinatorTo, called, counted, idle}
+use Rattle.rules.specs.Step.{withMask, reply, broadcast, participantTo, coordinatorTo, called, idle}
 use Rattle.state.specs.Fields.{fields, HasPlaces, votesIn, coordinatorIn, maskIn, participantIn, withCoordinatorIn, withMaskIn, withParticipantIn, countedIn, Puts}
 use Rattle.state.proofs.Parts.{same-votes, coordinator-in, participant-in, mask-in, with-coordinator, with-mask, with-participant, counts-one}
 use Rattle.release.specs.Types.{LogPair, Store, Message, Sent, Participant, Coordinator, Outcome, Release, Report}

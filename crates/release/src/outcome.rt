@@ -5,7 +5,7 @@ use rules::CLOSED;
 use rules::Outcome;
 use store::Logged;
 ghost use mathlib.Core.Path.{_≡_};
-ghost use Prim.Native.Nat.{_≤_, _<_};
+ghost use Prim.Native.Nat.{_<_};
 ghost use Rattle.store.specs.Log.{places};
 ghost use Rattle.rules.specs.Report.{outcomeNumber, moves, known, coordinatorKnown, learnt, closes, reportByte};
 
@@ -23,7 +23,7 @@ pub fn moves(o: Outcome) -> bool
 
 // The outcome's number.
 fn outcome_number(o: Outcome) -> u8
-    ensures { λ k. ⌜ (k ≡ outcomeNumber o) × (k ≤ 3) ⌝ }
+    ensures { λ k. ⌜ k ≡ outcomeNumber o ⌝ }
 {
     match o {
         Outcome::Idle => 0,

@@ -2,9 +2,9 @@
 use mathlib.Core.Path.{_≡_, refl, sym, ap, ap₂, subst, _∙_}
 use mathlib.Core.Logic.{_≢_}
 use mathlib.Core.Bool.{Bool, true, false, cond, not}
-use Prim.Native.Nat.{ℕ, suc}
+use Prim.Native.Nat.{ℕ, suc, _≤_}
 use native.Mathlib.Omega.{arith}
-use lib.Dec.{eqb}
+use lib.Dec.{eqb, lit≤}
 use Rattle.number.specs.Numbering.{Inverse}
 use Rattle.number.proofs.Laws.{inverse, and-left, and-right}
 use Rattle.store.specs.Log.{isAbort, replaces, leaves, perform, wroteAbort}
@@ -29,6 +29,12 @@ outcome-back Outcome.Abort = refl
 
 pub outcome-numbers : Inverse outcomeNumber outcomeOf
 outcome-numbers = inverse outcomeNumber outcomeOf outcome-back
+
+pub outcome-most : (o : Outcome) → outcomeNumber o ≤ 3
+outcome-most Outcome.Idle = lit≤ tt
+outcome-most Outcome.Moved = lit≤ tt
+outcome-most Outcome.Commit = lit≤ tt
+outcome-most Outcome.Abort = lit≤ tt
 
 byte-back : (o : Outcome) (closed : Bool) → (outcomeIn (reportByte o closed) ≡ o) × (closedIn (reportByte o closed) ≡ closed)
 byte-back Outcome.Idle true = (refl, refl)

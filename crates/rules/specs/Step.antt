@@ -92,7 +92,7 @@ abbrev pub called : ℕ → ℕ → LogPair → Release → Release
 called p j l r = withLog j l (counted p r)
 
 -- A call is due when that party has it pending, its Log would not be refused, and the answer is one its state can get. The log changes;
--- where the answer is heard (kind 06, not 07) the party does too
+-- where the answer is heard (kind 06, not 07) the party does too. Either way it is reported whether another's log was closed (request 2026-01)
 
 abbrev pub participantAnswered : Bool → ℕ → ℕ → Logged → Transition → Release → Report
 participantAnswered heard i j x NotDue r = idle r

@@ -1,5 +1,5 @@
 -- `release::step::lose` meets its contract, case by case. Assumes nothing.
-use mathlib.Core.Path.{_≡_, refl, sym, _∙_}
+use mathlib.Core.Path.{refl}
 use Rattle.mask.specs.Mask.{remove}
 use Rattle.rules.specs.Step.{moved, drop}
 use Rattle.release.proofs.Leading.{in-flight-leads, no-flight-leads, after-mask}

@@ -1,5 +1,5 @@
 -- `release::step::participant_goes` meets its contract, case by case. Assumes nothing.
-use mathlib.Core.Path.{_≡_, refl, sym}
+use mathlib.Core.Path.{refl}
 use borrow.Author.Needs.{needs}
 use Rattle.release.proofs.step.participant_goes.Statement.{statement}
 use Rattle.release.proofs.step.participant_goes.Tie as tie

@@ -1,5 +1,5 @@
 -- `tail::Tail::stepped` meets its contract, case by case. Assumes nothing.
-use mathlib.Core.Path.{_≡_, sym, ap, _∙_}
+use mathlib.Core.Path.{sym, ap, _∙_}
 use lib.ListN.{length-map}
 use Rattle.rules.specs.Report.{moves}
 use Rattle.rules.specs.Step.{step}
