@@ -3,11 +3,8 @@ use coordinator::Coordinator;
 use participant::Participant;
 use rules::CLOSED;
 use rules::Outcome;
-use store::Logged;
 ghost use mathlib.Core.Path.{_≡_};
-ghost use Prim.Native.Nat.{_<_};
-ghost use Rattle.store.specs.Log.{places};
-ghost use Rattle.rules.specs.Report.{outcomeNumber, moves, known, coordinatorKnown, learnt, closes, reportByte};
+ghost use Rattle.rules.specs.Report.{outcomeNumber, moves, known, coordinatorKnown, learnt, reportByte};
 
 // Whether the step was due.
 pub fn moves(o: Outcome) -> bool
@@ -39,14 +36,6 @@ pub fn report_byte(o: Outcome, closed: bool) -> u8
 {
     let k = outcome_number(o);
     if closed { k + CLOSED } else { k }
-}
-
-// Whether party p closed another's log, by a call on the log at place j that left this.
-pub fn closes(p: u32, j: u32, l: Logged) -> bool
-    requires { ⌜ j < places ⌝ }
-    ensures { λ b. ⌜ b ≡ closes p j l ⌝ }
-{
-    if l.wrote_abort() { p != j + 1 } else { false }
 }
 
 // What a participant knows of the decision.

@@ -1,7 +1,6 @@
 // One step of a release: `fields` are its numbers, and a step changes those of the parts that it names, in place; the store goes in by value and
 // comes back. A contract says what this is for the release that they are of. `i` and `j` are places, which count from 0; `p` is the number of a
 // party; `n` is the release's own; `heard` says whether the answer of a call is heard.
-use super::outcome::closes;
 use super::outcome::coordinator_known;
 use super::outcome::known;
 use super::outcome::learnt;
@@ -31,6 +30,7 @@ ghost use Rattle.mask.specs.Mask.{has};
 ghost use Rattle.store.specs.Log.{places};
 ghost use Rattle.kind.specs.Step.{inRange};
 ghost use Rattle.kind.specs.declared.Step.{Step};
+ghost use Rattle.rules.specs.Report.{closes};
 ghost use Rattle.rules.specs.Step.{drop, reply, participantTo, participantGoes, broadcast, coordinatorTo, coordinatorGoes, receive, participantAnswered, participantPerformed, participantCalls, coordinatorAnswered, coordinatorPerformed, coordinatorCalls, calls, step};
 ghost use Rattle.state.specs.Fields.{maskIn, Puts};
 ghost use Rattle.release.specs.Leads.{PutsUnder, Leads, LeadsUnder, Steps, CanCount};
@@ -186,6 +186,14 @@ fn lose(fields: &mut [u32; FIELDS], m: Message, i: u32) -> Outcome
     } else {
         Outcome::Idle
     }
+}
+
+// Whether party p closed another's log, by a call on the log at place j that left this.
+fn closes(p: u32, j: u32, l: Logged) -> bool
+    requires { ⌜ j < places ⌝ }
+    ensures { λ b. ⌜ b ≡ closes p j l ⌝ }
+{
+    if l.wrote_abort() { p != j + 1 } else { false }
 }
 
 // What a performed call of participant i on log j leads to: the log changes, and where the answer is heard the participant does too.

@@ -1,13 +1,14 @@
 -- What the bytes of steps say: the outcome and the word `closed`, and that 4 and 6 never occur. Assumes nothing.
 use mathlib.Core.Path.{_≡_, refl, sym, ap, ap₂, subst, _∙_}
 use mathlib.Core.Logic.{_≢_}
-use mathlib.Core.Bool.{Bool, true, false, cond, not}
+use mathlib.Core.Bool.{Bool, true, false, false≢true, cond, not}
 use Prim.Native.Nat.{ℕ, suc, _≤_}
 use native.Mathlib.Omega.{arith}
 use lib.Dec.{eqb, lit≤}
 use Rattle.number.specs.Numbering.{Inverse}
 use Rattle.number.proofs.Laws.{inverse, and-left, and-right}
-use Rattle.store.specs.Log.{isAbort, replaces, leaves, perform, wroteAbort}
+use Rattle.store.specs.Log.{isAbort, perform, wroteAbort}
+use Rattle.store.proofs.Laws.{log-cases}
 use Rattle.participant.specs.Participant
 use Rattle.coordinator.specs.Coordinator
 use Rattle.rules.specs.State.{participantOf, logOf}
@@ -17,7 +18,7 @@ use Rattle.rules.specs.Closed.{ClosedBytesHold, ByteSays}
 use Rattle.rules.specs.Types.{LogRecord, None, Yes, Abort, Commit, LogPair, Call, Logged, Performed, Participant, RecordingAbort, Transition, NotDue, To, Sent, Coordinator, CoordinatorTransition, Step, Release, Outcome, Report}
 use Rattle.rules.proofs.Cases.{answer-cases, coordinator-answer-cases, enters-cases}
 use Rattle.rules.proofs.Causes.{Cause, ParticipantCall, CoordinatorCall, idles, starts, delivers, copies, loses, answered, lost, coordinator-answered, coordinator-lost, times-out, crashes, restarts, coordinator-times-out, coordinator-crashes, coordinator-restarts, cause}
-use Rattle.rules.proofs.Closed.{false-true, to-closed, coordinator-closed, receive-closed}
+use Rattle.rules.proofs.Closed.{to-closed, coordinator-closed, receive-closed}
 
 -- A byte says what was reported
 
@@ -60,15 +61,15 @@ answer-learns : (n i j : ℕ) (p : Participant) (r : LogRecord) → Learns p r (
 answer-learns n i j p r =
     answer-cases n i j Learns (record {
       none = λ p r. tt;
-      vote-yes = λ d e. false-true e;
+      vote-yes = λ d e. absurd (false≢true e);
       vote-abort = λ d e. refl;
-      close-yes = λ d e. false-true e;
+      close-yes = λ d e. absurd (false≢true e);
       close-abort = λ d e. refl;
-      close-commit = λ d e. false-true e;
-      hear-yes = λ h d e. false-true e;
+      close-commit = λ d e. absurd (false≢true e);
+      hear-yes = λ h d e. absurd (false≢true e);
       hear-abort = λ h d e. refl;
-      hear-commit = λ h d e. false-true e;
-      record-commit = λ d e. false-true e;
+      hear-commit = λ h d e. absurd (false≢true e);
+      record-commit = λ d e. absurd (false≢true e);
       record-abort = λ d e. absurd (d refl);
     }) p r
 
@@ -78,19 +79,15 @@ abbrev Unwritten : Performed → Type 0
 Unwritten Performed.Refused = Unit {0}
 Unwritten (Performed.Done x) = x .wrote ≡ false
 
-log-unwritten : (l : LogPair) (b : Bool) → Unwritten (cond b (Performed.Done (leaves false l)) Performed.Refused)
-log-unwritten l true = refl
-log-unwritten l false = tt
-
 recording-unwritten : (b : Bool) (l : LogPair) → Unwritten (perform (cond b (Call.Log Abort) Call.None) l)
-recording-unwritten true l = log-unwritten _ (replaces Abort (l .last))
+recording-unwritten true l = log-cases Unwritten Abort l tt refl
 recording-unwritten false l = tt
 
 not-recording : (i j : ℕ) (p : Participant) (l : LogPair) (x : Logged) → perform (Participant.pending i p j) l ≡ Performed.Done x → x .wrote ≡ true → p ≢ RecordingAbort
 not-recording i j p l x q w e =
     let u : Unwritten (perform (Participant.pending i p j) l) =
     subst (λ (z : Participant). Unwritten (perform (Participant.pending i z j) l)) (sym e) (recording-unwritten (eqb j i) l) in
-    false-true (sym (subst Unwritten q u) ∙ w)
+    false≢true (sym (subst Unwritten q u) ∙ w)
 
 -- the coordinator learns it
 
@@ -101,10 +98,10 @@ CoordinatorLearns r c (CoordinatorTransition.To d x) = isAbort r ≡ true → le
 heard-learns : (n h k : ℕ) (r : LogRecord) → CoordinatorLearns r (Coordinator.Terminating h) (Coordinator.onHeard n k r)
 heard-learns n h k None = tt
 heard-learns n h k Yes =
-    enters-cases (CoordinatorLearns Yes (Coordinator.Terminating h)) (Coordinator.unlessFull n k (Coordinator.Terminating k)) (λ e. false-true e) (λ q e. false-true e)
-    (λ q e. false-true e)
+    enters-cases (CoordinatorLearns Yes (Coordinator.Terminating h)) (Coordinator.unlessFull n k (Coordinator.Terminating k)) (λ e. absurd (false≢true e)) (λ q e. absurd (false≢true e))
+    (λ q e. absurd (false≢true e))
 heard-learns n h k Abort = λ e. refl
-heard-learns n h k Commit = λ e. false-true e
+heard-learns n h k Commit = λ e. absurd (false≢true e)
 
 coordinator-answer-learns : (n j : ℕ) (r : LogRecord) (c : Coordinator) → CoordinatorLearns r c (Coordinator.onAnswer n c j r)
 coordinator-answer-learns n j r c = coordinator-answer-cases (CoordinatorLearns r) n j r (λ c. tt) (λ h. heard-learns n h _ r) c
@@ -119,7 +116,7 @@ by-same : {s : Step} {o x : Outcome} → ClosedBy s o → x ≡ o → ClosedBy s
 by-same {s} b e = subst (ClosedBy s) (sym e) b
 
 unclosed : {s : Step} {o : Outcome} {b : Bool} → b ≡ false → b ≡ true → ClosedBy s o
-unclosed p q = false-true (sym p ∙ q)
+unclosed p q = absurd (false≢true (sym p ∙ q))
 
 to-outcome : (i : ℕ) (p : Participant) (x : Sent) (r : Release) → participantTo i p x r .outcome ≡ learnt (known (participantOf r i)) (known p)
 unfolding participantTo

@@ -1,17 +1,17 @@
 -- A step has the word `closed` just where request 2026-01 says so, by the logs before and after it. Assumes nothing.
 use mathlib.Core.Path.{_≡_, refl, sym, ap, subst, _∙_}
 use mathlib.Core.Logic.{_⊎_, inl, inr}
-use mathlib.Core.Bool.{Bool, true, false, cond, not, _&&_}
+use mathlib.Core.Bool.{Bool, true, false, false≢true, not, _&&_}
 use mathlib.Core.List.{List}
 use Prim.Native.Nat.{ℕ, zero, suc, _≤_, _<_}
 use native.Mathlib.Nat.{le-trans}
-use native.Mathlib.Omega.{arith}
 use lib.Dec.{eqb}
 use lib.ListN.{length, getD, set}
 use lib.Seq.{getD-set-same}
 use borrow.Author.Tests.{eqb-false, not-true, ne-eqb}
 use Rattle.number.proofs.Laws.{and-left, and-right, and-true}
-use Rattle.store.specs.Log.{empty, isNone, isAbort, replaces, leaves, perform, wroteAbort}
+use Rattle.store.specs.Log.{empty, isNone, isAbort, perform, wroteAbort}
+use Rattle.store.proofs.Laws.{once-cases, log-cases}
 use Rattle.participant.specs.Participant
 use Rattle.coordinator.specs.Coordinator
 use Rattle.rules.specs.State.{participantOf, logOf, firstOf}
@@ -22,9 +22,6 @@ use Rattle.rules.specs.Types.{LogRecord, None, Yes, Abort, Commit, LogPa
 use Rattle.rules.proofs.Bounds.{Bounds, bounds}
 use Rattle.rules.proofs.Causes.{Cause, idles, starts, delivers, copies, loses, answered, lost, coordinator-answered, coordinator-lost, times-out, crashes, restarts, coordinator-times-out, coordinator-crashes, coordinator-restarts, cause}
 use Rattle.rules.proofs.Idle.{idle-step}
-
-pub false-true : {A : Type 0} → false ≡ true → A
-false-true e = let z : _≡_ {A = ℕ} 0 1 = cc in absurd (omega arith)
 
 -- The word as tests, as the rules have it
 
@@ -53,12 +50,6 @@ abbrev Says : LogPair → Performed → Type 0
 Says l Performed.Refused = Unit {0}
 Says l (Performed.Done x) = wroteAbort x ≡ isNone (l .first) && isAbort (x .log .first)
 
-once-says : (r first last : LogRecord) → Says (record { first = first; last = last }) (perform (Call.LogOnce r) (record { first = first; last = last }))
-once-says r None last = refl
-once-says r Yes last = refl
-once-says r Abort last = refl
-once-says r Commit last = refl
-
 -- a first record that stays is not an abort where there was none
 stays : (first : LogRecord) → false ≡ isNone first && isAbort first
 stays None = refl
@@ -66,14 +57,10 @@ stays Yes = refl
 stays Abort = refl
 stays Commit = refl
 
-log-says : (r : LogRecord) (l : LogPair) (b : Bool) → Says l (cond b (Performed.Done (leaves false (record { first = l .first; last = r }))) Performed.Refused)
-log-says r l true = stays (l .first)
-log-says r l false = tt
-
 perform-says : (c : Call) (l : LogPair) → Says l (perform c l)
 perform-says Call.None l = tt
-perform-says (Call.LogOnce r) l = once-says r (l .first) (l .last)
-perform-says (Call.Log r) l = log-says r l (replaces r (l .last))
+perform-says (Call.LogOnce r) l = once-cases (λ x. Says l (Performed.Done x)) r l (λ e. rw e refl) (stays (l .first))
+perform-says (Call.Log r) l = log-cases (Says l) r l tt (stays (l .first))
 
 -- a due call of party p on the log at place j, that leaves the log of x in the release t
 call-closes : (r t : Release) (p j : ℕ) (c : Call) (x : Logged) → perform c (logOf r j) ≡ Performed.Done x → j < length (r .store .logs)
@@ -159,21 +146,21 @@ caused-closes r (coordinator-restarts {c} {x} q) h room = coordinator-closed c x
 
 is-none : (x : LogRecord) → isNone x ≡ true → x ≡ None
 is-none None e = refl
-is-none Yes e = false-true e
-is-none Abort e = false-true e
-is-none Commit e = false-true e
+is-none Yes e = absurd (false≢true e)
+is-none Abort e = absurd (false≢true e)
+is-none Commit e = absurd (false≢true e)
 
 is-abort : (x : LogRecord) → isAbort x ≡ true → x ≡ Abort
-is-abort None e = false-true e
-is-abort Yes e = false-true e
+is-abort None e = absurd (false≢true e)
+is-abort Yes e = absurd (false≢true e)
 is-abort Abort e = refl
-is-abort Commit e = false-true e
+is-abort Commit e = absurd (false≢true e)
 
 module _ (r t : Release) where
   -- a call, whether its answer is heard or lost
   call-said : (s : Step) (p q : ℕ) → isDue r s ≡ true → callCloses p q r t ≡ true
       → ((j : ℕ) → q ≡ suc j → (s ≡ Step.Call p (suc j)) ⊎ (s ≡ Step.CallLost p (suc j))) → ClosesAnother r s t
-  call-said s p zero due e call = false-true e
+  call-said s p zero due e call = absurd (false≢true e)
   call-said s p (suc j) due e call =
       let logs : isNone (firstOf r j) && isAbort (firstOf t j) ≡ true = and-left (isNone (firstOf r j) && isAbort (firstOf t j)) (not (eqb p (suc j))) e in
       let other : not (eqb p (suc j)) ≡ true = and-right (isNone (firstOf r j) && isAbort (firstOf t j)) (not (eqb p (suc j))) e in
@@ -188,15 +175,15 @@ module _ (r t : Release) where
       }
 
   said : (s : Step) → isDue r s ≡ true → closesAnother s r t ≡ true → ClosesAnother r s t
-  said Start due e = false-true e
-  said (Deliver m p) due e = false-true e
-  said (Copy m p) due e = false-true e
-  said (Lose m p) due e = false-true e
+  said Start due e = absurd (false≢true e)
+  said (Deliver m p) due e = absurd (false≢true e)
+  said (Copy m p) due e = absurd (false≢true e)
+  said (Lose m p) due e = absurd (false≢true e)
   said (Step.Call p q) due e = call-said (Step.Call p q) p q due e (λ j k. inl (ap (Step.Call p) k))
   said (Step.CallLost p q) due e = call-said (Step.CallLost p q) p q due e (λ j k. inr (ap (Step.CallLost p) k))
-  said (Timeout p) due e = false-true e
-  said (Crash p) due e = false-true e
-  said (Restart p) due e = false-true e
+  said (Timeout p) due e = absurd (false≢true e)
+  said (Crash p) due e = absurd (false≢true e)
+  said (Restart p) due e = absurd (false≢true e)
 
   tested : (s : Step) → ClosesAnother r s t → closesAnother s r t ≡ true
   tested s x = go (x .call)
@@ -211,7 +198,7 @@ module _ (r t : Release) where
 -- a step that closes a log is due
 closed-due : (r : Release) (s : Step) (b : Bool) → isDue r s ≡ b → step r s .closed ≡ true → b ≡ true
 closed-due r s true d e = refl
-closed-due r s false d e = false-true (sym (ap (λ (t : Report). t .closed) (idle-step r s d)) ∙ e)
+closed-due r s false d e = absurd (false≢true (sym (ap (λ (t : Report). t .closed) (idle-step r s d)) ∙ e))
 
 pub closed-as-written : ClosedAsWritten
 closed-as-written r s room h =

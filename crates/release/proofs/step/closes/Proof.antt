@@ -1,8 +1,8 @@
--- `release::outcome::closes` meets its contract, case by case. Assumes nothing.
+-- `release::step::closes` meets its contract, case by case. Assumes nothing.
 use native.Mathlib.Numerals.{add-one}
 use borrow.Author.Needs.{needs}
-use Rattle.release.proofs.outcome.closes.Statement.{statement}
-use Rattle.release.proofs.outcome.closes.Tie as tie
+use Rattle.release.proofs.step.closes.Statement.{statement}
+use Rattle.release.proofs.step.closes.Tie as tie
 
 pub closes-spec : {M : Type 1} → statement M
 closes-spec =
