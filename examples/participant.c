@@ -1,4 +1,5 @@
-/* A host that steps one participant: through a commit, and through a termination after a silent coordinator. */
+/* A host that steps one participant: through a commit, through a termination after a silent coordinator, and through one that the coordinator's
+ * decision ends. */
 #include "cornus.h"
 
 #include <stdio.h>
@@ -50,9 +51,23 @@ static void termination(void)
     step(&p, "log 2 answers commit", CORNUS_ANSWER, 2, CORNUS_RECORD_COMMIT);
 }
 
+static void decision_while_terminating(void)
+{
+    struct participant p = {.n = 4, .own = 2, .state = CORNUS_WAITING, .heard = 0};
+
+    printf("participant 2 of 4 gets the decision while it terminates\n");
+    step(&p, "request, its vote is yes", CORNUS_REQUEST, CORNUS_VOTE_YES, 0);
+    step(&p, "log 2 answers yes", CORNUS_ANSWER, 2, CORNUS_RECORD_YES);
+    step(&p, "timeout", CORNUS_TIMEOUT, 0, 0);
+    step(&p, "log 1 answers yes", CORNUS_ANSWER, 1, CORNUS_RECORD_YES);
+    step(&p, "decision commit", CORNUS_DECISION, CORNUS_RECORD_COMMIT, 0);
+    step(&p, "log 2 answers commit", CORNUS_ANSWER, 2, CORNUS_RECORD_COMMIT);
+}
+
 int main(void)
 {
     commit();
     termination();
+    decision_while_terminating();
     return 0;
 }

@@ -14,7 +14,7 @@ extern "C" {
 #define CORNUS_VOTING_YES 1       /* calls LogOnce(yes) on its own log */
 #define CORNUS_CLOSING 2          /* calls LogOnce(abort) on its own log */
 #define CORNUS_UNCERTAIN 3        /* has voted yes, waits for the decision */
-#define CORNUS_TERMINATING 4      /* calls LogOnce(abort) on each log not heard */
+#define CORNUS_TERMINATING 4      /* calls LogOnce(abort) on each log not heard; the decision may still come */
 #define CORNUS_RECORDING_COMMIT 5 /* calls Log(commit) on its own log */
 #define CORNUS_RECORDING_ABORT 6  /* calls Log(abort) on its own log */
 #define CORNUS_DONE_COMMIT 7      /* has recorded commit */
@@ -23,7 +23,7 @@ extern "C" {
 
 /* Events. */
 #define CORNUS_REQUEST 1  /* vote request; detail: the vote */
-#define CORNUS_DECISION 2 /* the coordinator's decision; detail: abort or commit, as records */
+#define CORNUS_DECISION 2 /* the coordinator's decision, taken in states 3 and 4; detail: abort or commit, as records */
 #define CORNUS_TIMEOUT 3
 #define CORNUS_CRASH 4
 #define CORNUS_RESTART 5

@@ -1,4 +1,5 @@
-/* The host's entry on numbers that it must refuse: the number of document 01's table, and not a byte of the buffer touched. */
+/* The host's entry on numbers that it must refuse: the number of document 01's table, and not a byte of the buffer touched. And on numbers that it
+ * takes: three bytes, and not a byte beyond. */
 #include "cornus.h"
 
 #include <stdio.h>
@@ -57,7 +58,7 @@ static const struct refusal refusals[] = {
 };
 
 /* 1 where the entry answers otherwise or touches the buffer. */
-static int wrong(const struct refusal *r)
+static int wrong_refusal(const struct refusal *r)
 {
     const uint32_t *k = r->numbers;
     uint8_t out[ROOM];
@@ -72,27 +73,56 @@ static int wrong(const struct refusal *r)
     return 1;
 }
 
-/* 1 where success writes other bytes, or beyond the three. */
-static int writes_beyond(void)
+struct answer {
+    const char *what;
+    uint32_t numbers[7];
+    uint8_t written[CORNUS_STEP_BYTES]; /* state, heard mask, message sent */
+};
+
+static const struct answer answers[] = {
+    {"a yes vote of 8 among 8", {8, 8, 1, 0, 6, 8, 1}, {3, 0, 2}},
+    {"decision abort in state 3", {3, 1, 3, 0, 2, 2, 0}, {6, 0, 0}},
+    {"decision commit in state 3", {3, 1, 3, 0, 2, 3, 0}, {5, 0, 0}},
+    {"decision abort in state 4, nobody heard", {3, 1, 4, 0, 2, 2, 0}, {6, 0, 0}},
+    {"decision commit in state 4, nobody heard", {3, 1, 4, 0, 2, 3, 0}, {5, 0, 0}},
+    {"decision abort in state 4, one heard", {3, 1, 4, 2, 2, 2, 0}, {6, 0, 0}},
+    {"decision commit in state 4, one heard", {3, 1, 4, 2, 2, 3, 0}, {5, 0, 0}},
+    {"decision commit in state 4 of 8 among 8, all but one heard", {8, 8, 4, 126, 2, 3, 0}, {5, 0, 0}},
+    {"decision abort in state 0", {3, 1, 0, 0, 2, 2, 0}, {0, 0, 0}},
+    {"decision commit in state 1", {3, 1, 1, 0, 2, 3, 0}, {1, 0, 0}},
+    {"decision abort in state 2", {3, 1, 2, 0, 2, 2, 0}, {2, 0, 0}},
+    {"decision commit in state 2", {3, 1, 2, 0, 2, 3, 0}, {2, 0, 0}},
+    {"decision abort in state 5", {3, 1, 5, 0, 2, 2, 0}, {5, 0, 0}},
+    {"decision commit in state 9", {3, 1, 9, 0, 2, 3, 0}, {9, 0, 0}},
+};
+
+/* 1 where the entry refuses, writes other bytes, or writes beyond the three. */
+static int wrong_answer(const struct answer *a)
 {
-    static const uint8_t expected[ROOM] = {CORNUS_UNCERTAIN, 0, CORNUS_SENDS_REPLY_YES, UNTOUCHED, UNTOUCHED, UNTOUCHED, UNTOUCHED, UNTOUCHED};
+    const uint32_t *k = a->numbers;
     uint8_t out[ROOM];
+    uint8_t expected[ROOM];
 
     memset(out, UNTOUCHED, sizeof out);
-    uint32_t returned = cornus_participant_step(8, 8, CORNUS_VOTING_YES, 0, CORNUS_ANSWER, 8, CORNUS_RECORD_YES, out, sizeof out);
+    memset(expected, UNTOUCHED, sizeof expected);
+    memcpy(expected, a->written, sizeof a->written);
+    uint32_t returned = cornus_participant_step(k[0], k[1], k[2], k[3], k[4], k[5], k[6], out, sizeof out);
     if (returned == CORNUS_OK && memcmp(out, expected, sizeof out) == 0)
         return 0;
-    printf("a yes vote: returned %u or wrote other bytes\n", (unsigned)returned);
+    printf("%s: returned %u, wrote %u %u %u\n", a->what, (unsigned)returned, out[0], out[1], out[2]);
     return 1;
 }
 
 int main(void)
 {
-    size_t count = sizeof refusals / sizeof refusals[0];
-    int failures = writes_beyond();
+    size_t refusal_count = sizeof refusals / sizeof refusals[0];
+    size_t answer_count = sizeof answers / sizeof answers[0];
+    int failures = 0;
 
-    for (size_t i = 0; i < count; i++)
-        failures += wrong(&refusals[i]);
-    printf("host entry: %zu refusals, %d wrong\n", count, failures);
+    for (size_t i = 0; i < refusal_count; i++)
+        failures += wrong_refusal(&refusals[i]);
+    for (size_t i = 0; i < answer_count; i++)
+        failures += wrong_answer(&answers[i]);
+    printf("host entry: %zu refusals and %zu answers, %d wrong\n", refusal_count, answer_count, failures);
     return failures != 0;
 }

@@ -1,3 +1,4 @@
 pub mod Laws
 pub mod Agrees
 pub mod Cases
+pub mod Decision

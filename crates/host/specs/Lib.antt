@@ -1,3 +1,4 @@
 pub mod Types
 pub mod Host
 pub mod Agrees
+pub mod Decision

@@ -82,7 +82,7 @@ onRequest vote DoneCommit = DoneCommit
 onRequest vote DoneAbort = DoneAbort
 onRequest vote Down = Down
 
--- Decision in 3: to 5 or 6. Any other delivery has no effect
+-- Decision in 3, and by request 2026-02 in 4: to 5 or 6. Any other delivery has no effect
 abbrev pub recording : Decision → Participant
 recording Decision.Commit = RecordingCommit
 recording Decision.Abort = RecordingAbort
@@ -92,7 +92,7 @@ onDecision d Waiting = Waiting
 onDecision d VotingYes = VotingYes
 onDecision d Closing = Closing
 onDecision d Uncertain = recording d
-onDecision d (Terminating h) = Terminating h
+onDecision d (Terminating h) = recording d
 onDecision d RecordingCommit = RecordingCommit
 onDecision d RecordingAbort = RecordingAbort
 onDecision d DoneCommit = DoneCommit

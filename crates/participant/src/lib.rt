@@ -181,7 +181,7 @@ impl Participant {
         }
     }
 
-    // The coordinator's decision.
+    // The coordinator's decision. Uncertain and terminating take it; a heard mask is gone then.
     pub fn decision(self, d: Decision) -> Participant
         ensures { λ p. ⌜ p ≡ onDecision d self ⌝ }
     {
@@ -190,7 +190,7 @@ impl Participant {
             Participant::VotingYes => Participant::VotingYes,
             Participant::Closing => Participant::Closing,
             Participant::Uncertain => Participant::recording(d),
-            Participant::Terminating(h) => Participant::Terminating(h),
+            Participant::Terminating(_) => Participant::recording(d),
             Participant::RecordingCommit => Participant::RecordingCommit,
             Participant::RecordingAbort => Participant::RecordingAbort,
             Participant::DoneCommit => Participant::DoneCommit,

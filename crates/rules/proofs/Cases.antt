@@ -26,19 +26,19 @@ request-cases P vote a b DoneCommit = b DoneCommit
 request-cases P vote a b DoneAbort = b DoneAbort
 request-cases P vote a b Down = b Down
 
--- a decision moves an uncertain one
-pub decision-cases : (P : Participant → Participant → Type 0) (d : Decision) → P Uncertain (Participant.recording d) → ((p : Participant) → P p p)
-    → (p : Participant) → P p (Participant.onDecision d p)
-decision-cases P d a b Waiting = b Waiting
-decision-cases P d a b VotingYes = b VotingYes
-decision-cases P d a b Closing = b Closing
-decision-cases P d a b Uncertain = a
-decision-cases P d a b (Terminating h) = b (Terminating h)
-decision-cases P d a b RecordingCommit = b RecordingCommit
-decision-cases P d a b RecordingAbort = b RecordingAbort
-decision-cases P d a b DoneCommit = b DoneCommit
-decision-cases P d a b DoneAbort = b DoneAbort
-decision-cases P d a b Down = b Down
+-- a decision moves an uncertain one, and one that terminates
+pub decision-cases : (P : Participant → Participant → Type 0) (d : Decision) → P Uncertain (Participant.recording d)
+    → ((h : ℕ) → P (Terminating h) (Participant.recording d)) → ((p : Participant) → P p p) → (p : Participant) → P p (Participant.onDecision d p)
+decision-cases P d a b c Waiting = c Waiting
+decision-cases P d a b c VotingYes = c VotingYes
+decision-cases P d a b c Closing = c Closing
+decision-cases P d a b c Uncertain = a
+decision-cases P d a b c (Terminating h) = b h
+decision-cases P d a b c RecordingCommit = c RecordingCommit
+decision-cases P d a b c RecordingAbort = c RecordingAbort
+decision-cases P d a b c DoneCommit = c DoneCommit
+decision-cases P d a b c DoneAbort = c DoneAbort
+decision-cases P d a b c Down = c Down
 
 pub timeout-cases : (P : Participant → Transition → Type 0) (n i : ℕ) → P Waiting (Participant.to Closing)
     → P Uncertain (Participant.to (Participant.terminating n i 0)) → ((h : ℕ) → P (Terminating h) (Participant.to (Terminating 0)))

@@ -58,12 +58,13 @@ module _ (r : Release) (v : Inv r) (i : ℕ) (lt : i < r .n) (ys : List Step) (r
       go (inl h) = absurd (none h)
       go (inr h) = omega (arith, fewer, up-rank (r .n) (participantOf r i) up)
 
-  held-after : r .n + 1 ≤ answered i r ys → Holds cut i
-  held-after more = go standing
+  -- a decision is held when as many calls were answered as the participant had left
+  pub held-after : rank (r .n) (participantOf r i) ≤ answered i r ys → Holds cut i
+  held-after all = go standing
     where
       go : Holds cut i ⊎ (1 ≤ rank (r .n) (participantOf cut i)) → Holds cut i
       go (inl h) = h
-      go (inr h) = absurd (omega (arith, fewer, up-rank (r .n) (participantOf r i) up))
+      go (inr h) = absurd (omega (arith, fewer))
 
   held-stays-held : Holds r i → Holds cut i
   held-stays-held held = go standing
@@ -79,7 +80,7 @@ decides-from r v i lt ys zs h up calm =
     let d : Later r (after r ys) = later r ys hy v in
     record {
       until = at-most-n r v i lt ys hy up cy;
-      within = held-after r v i lt ys hy up cy;
+      within = λ all. held-after r v i lt ys hy up cy (omega (arith, up-rank (r .n) (participantOf r i) up));
       kept =
           held-stays-held (after r ys) (d .inv) i (rw (d .same-n) lt) zs (rw (d .same-n) (range-right (r .n) ys zs h)) (still-up r v i lt ys hy up cy)
           (undisturbed-right i r ys zs calm);

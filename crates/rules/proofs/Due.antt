@@ -7,7 +7,7 @@ use Rattle.rules.specs.Report.{moves, known, coordinatorKnown, learnt}
 use Rattle.rules.specs.Step.{participantTo, participantGoes, coordinatorTo}
 use Rattle.rules.specs.Types.{Participant, Waiting, VotingYes, Closing, Uncertain, Terminating, RecordingCommit, RecordingAbort, DoneCommit, DoneAbort, Down, Sent, Transition, NotDue, To, Coordinator, Outcome, Release}
 
-known-moves : (p : Participant) → moves (known p) ≡ true
+pub known-moves : (p : Participant) → moves (known p) ≡ true
 known-moves Waiting = refl
 known-moves VotingYes = refl
 known-moves Closing = refl

@@ -23,3 +23,4 @@ pub mod Room
 pub mod Idle
 pub mod Closed
 pub mod Bytes
+pub mod Decision

@@ -43,7 +43,7 @@ entered P r k i p s old new =
     rw (reply-sites s k r)
     (set-all (λ (j : ℕ) (x : Site). j ≡ i → P (x .participant)) (r .sites) k (record { participant = p }) waiting (λ j q. rw q old) new i refl)
 
-entered-own : (r : Release) (i : ℕ) (p : Participant) (s : Sent) → i < length (r .sites) → participantOf (participantTo i p s r .next) i ≡ p
+pub entered-own : (r : Release) (i : ℕ) (p : Participant) (s : Sent) → i < length (r .sites) → participantOf (participantTo i p s r .next) i ≡ p
 unfolding participantTo
 entered-own r i p s h =
     rw (reply-sites s i r) (ap (λ (x : Site). x .participant) (getD-set-same (r .sites) i (record { participant = p }) waiting h))

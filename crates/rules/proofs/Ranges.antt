@@ -154,7 +154,7 @@ module _ (n i : ℕ) (lt : i < n) where
   recording-range Decision.Abort = tt
 
   pub decision-range : (d : Decision) (p : Participant) → ParticipantInRange n i p → ParticipantInRange n i (Participant.onDecision d p)
-  decision-range d p = decision-cases (λ p p′. ParticipantInRange n i p → ParticipantInRange n i p′) d (λ k. recording-range d) (λ p k. k) p
+  decision-range d p = decision-cases (λ p p′. ParticipantInRange n i p → ParticipantInRange n i p′) d (λ k. recording-range d) (λ h k. recording-range d) (λ p k. k) p
 
   pub timeout-range : (p : Participant) → ParticipantInRange n i p → ToInRange n i (Participant.onTimeout n i p)
   timeout-range p =

@@ -33,6 +33,10 @@ Within n k NotDue = Unit {0}
 Within n k (To p s) = rank n p ≤ k
 
 module _ (n i : ℕ) (lt : i < n) where
+  -- one's own log is never heard, so a participant that terminates has a call left
+  pub own-left : (F : ℕ → LogRecord) (h : ℕ) → Termination n F i h → 1 ≤ rank n (Terminating h)
+  own-left F h k = omega (arith, size-insert n i h lt (bit-of-has i h (k .others)), size-le n (insert i h))
+
   -- two participants that are not heard
   two-left : (F : ℕ → LogRecord) (j h : ℕ) → j < n → has j (insert i h) ≡ false → Termination n F i h → size n h + 2 ≤ n
   two-left F j h l g k =
@@ -51,13 +55,14 @@ module _ (n i : ℕ) (lt : i < n) where
       request-cases (λ p p′. rank n p′ ≤ rank n p) vote (cond-cases (λ p. rank n p ≤ n + 1) vote VotingYes Closing (λ t. omega arith) (λ t. omega arith))
       (λ p. le-refl (rank n p)) p
 
-  recording-rank : (d : Decision) → rank n (Participant.recording d) ≤ 1
+  pub recording-rank : (d : Decision) → rank n (Participant.recording d) ≤ 1
   recording-rank Decision.Commit = omega arith
   recording-rank Decision.Abort = omega arith
 
   pub decision-rank : (F : ℕ → LogRecord) (d : Decision) (p : Participant) → Knows n F i p → rank n (Participant.onDecision d p) ≤ rank n p
   decision-rank F d p =
-      decision-cases (λ p p′. Knows n F i p → rank n p′ ≤ rank n p) d (λ k. omega (arith, recording-rank d)) (λ p k. le-refl (rank n p)) p
+      decision-cases (λ p p′. Knows n F i p → rank n p′ ≤ rank n p) d (λ k. omega (arith, recording-rank d))
+      (λ h k. omega (arith, recording-rank d, own-left F h k)) (λ p k. le-refl (rank n p)) p
 
   pub timeout-rank : (p : Participant) → ((h : ℕ) → p ≡ Terminating h → ⊥) → Within n (rank n p) (Participant.onTimeout n i p)
   timeout-rank p =

@@ -6,8 +6,6 @@ use Prim.Native.Nat.{ℕ, suc, _+_, _≤_, _<_}
 use native.Mathlib.Omega.{arith}
 use lib.Dec.{eqb}
 use borrow.Author.Tests.{eq-eqb}
-use Rattle.mask.specs.Mask.{insert}
-use Rattle.mask.proofs.Laws.{size-insert, size-le, bit-of-has}
 use Rattle.store.specs.Log.{perform}
 use Rattle.participant.specs.Participant
 use Rattle.rules.specs.State.{participantOf, logOf, firstOf, lastOf}
@@ -17,7 +15,7 @@ use Rattle.rules.specs.Demand.{EveryYes, SomeAbort, Up, Holds, Ready}
 use Rattle.rules.specs.Types.{LogRecord, None, Yes, Abort, Commit, Call, Logged, Performed, Participant, Waiting, VotingYes, Closing, Uncertain, Terminating, RecordingCommit, RecordingAbort, DoneCommit, DoneAbort, Down, Transition, NotDue, To, Release}
 use Rattle.rules.proofs.FirstRecords.{excluded}
 use Rattle.rules.proofs.Invariant.{Knows, Ends, Allowed, Inv}
-use Rattle.rules.proofs.Rank.{rank}
+use Rattle.rules.proofs.Rank.{rank, own-left}
 use Rattle.rules.proofs.Due.{IsTo, participant-due, goes-due}
 
 -- the own call answers in a way that the state can get
@@ -127,7 +125,7 @@ undecided-rank n i F Waiting l k u = omega arith
 undecided-rank n i F VotingYes l k u = omega arith
 undecided-rank n i F Closing l k u = omega arith
 undecided-rank n i F Uncertain l k u = omega arith
-undecided-rank n i F (Terminating h) l k u = omega (arith, size-insert n i h l (bit-of-has i h (k .others)), size-le n (insert i h))
+undecided-rank n i F (Terminating h) l k u = own-left n i l F h k
 undecided-rank n i F RecordingCommit l k u = omega arith
 undecided-rank n i F RecordingAbort l k u = omega arith
 undecided-rank n i F DoneCommit l k u = absurd u

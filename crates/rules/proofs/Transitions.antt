@@ -56,7 +56,7 @@ module _ (n : ℕ) (F : ℕ → LogRecord) (i : ℕ) (e : LogRecord) where
   stands-recording Decision.Abort t y = record { knows = record { own = y; some = t }; ends = tt }
 
   pub decision-stands : (d : Decision) → DecisionTells d → (p : Participant) → Stands n F i e p → Stands n F i e (Participant.onDecision d p)
-  decision-stands d t p = decision-cases (λ p p′. Stands n F i e p → Stands n F i e p′) d (λ h. stands-recording d t (h .knows)) (λ p h. h) p
+  decision-stands d t p = decision-cases (λ p p′. Stands n F i e p → Stands n F i e p′) d (λ h. stands-recording d t (h .knows)) (λ m h. stands-recording d t (h .knows .own)) (λ p h. h) p
 
   pub timeout-fits : (p : Participant) → Knows n F i p → Fits n F i e (Participant.onTimeout n i p)
   timeout-fits p =

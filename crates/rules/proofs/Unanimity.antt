@@ -114,7 +114,7 @@ recording-willing Decision.Commit = tt
 recording-willing Decision.Abort = tt
 
 decision-willing : (d : Decision) (p : Participant) → Willing p → Willing (Participant.onDecision d p)
-decision-willing d p = decision-cases (λ p p′. Willing p → Willing p′) d (λ w. recording-willing d) (λ p w. w) p
+decision-willing d p = decision-cases (λ p p′. Willing p → Willing p′) d (λ w. recording-willing d) (λ h w. absurd w) (λ p w. w) p
 
 answer-willing : (n i : ℕ) (p : Participant) (j : ℕ) (a : LogRecord) → Willing p → WillingTo (Participant.onAnswer n i p j a)
 answer-willing n i p j a =

@@ -7,3 +7,4 @@ pub mod Run
 pub mod Demand
 pub mod Range
 pub mod Closed
+pub mod Decision

@@ -1,0 +1,53 @@
+-- A decision delivered to a participant, as request 2026-02 amends document 01: where it leads, what the step reports, and that one answered call is
+-- left then. Proved in proofs/Decision.antt. Assumes nothing.
+use mathlib.Core.Path.{_≡_}
+use mathlib.Core.Logic.{_⊎_}
+use mathlib.Core.Bool.{true}
+use mathlib.Core.List.{List, _∷_, _++_}
+use Prim.Native.Nat.{ℕ, suc, _≤_, _<_}
+use lib.ListN.{length}
+use Rattle.kind.specs.Step.{AllInRange}
+use Rattle.participant.specs.Decision.{TakesDecision, DecisionLeads}
+use Rattle.rules.specs.State.{participantOf, inFlight, fresh}
+use Rattle.rules.specs.Report.{stepByte}
+use Rattle.rules.specs.Step.{withParticipant, step}
+use Rattle.rules.specs.Run.{after}
+use Rattle.rules.specs.Demand.{Holds, answered, AllUndisturbed}
+use Rattle.rules.specs.Types.{Message, Decision, Uncertain, Terminating, Release, Step, Deliver, Copy}
+
+-- the message that brings a decision, and the byte that reports it
+abbrev pub decisionMessage : Decision → Message
+decisionMessage Decision.Commit = Message.Commit
+decisionMessage Decision.Abort = Message.Abort
+
+abbrev pub decisionByte : Decision → ℕ
+decisionByte Decision.Commit = 2
+decisionByte Decision.Abort = 3
+
+-- step s delivers d, or a copy of it, to participant i
+pub record Brings (r : Release) (s : Step) (d : Decision) (i : ℕ) : Type 0 where
+  pub delivery : (s ≡ Deliver (decisionMessage d) (suc i)) ⊎ (s ≡ Copy (decisionMessage d) (suc i))
+  pub in-flight : inFlight r (decisionMessage d) i ≡ true
+
+pub record DecisionDelivered (r : Release) (s : Step) (d : Decision) (i : ℕ) : Type 0 where
+  -- in 3 or 4: to 5 or 6, and the heard mask is gone; in any other state no effect
+  pub leads : DecisionLeads d (participantOf r i) (participantOf (step r s .next) i)
+  -- in 3 or 4 the step reports the decision; in any other state it is due and reports no more
+  pub reported : TakesDecision (participantOf r i) → stepByte (step r s) ≡ decisionByte d
+  pub unreported : (TakesDecision (participantOf r i) → ⊥) → stepByte (step r s) ≡ 1
+  -- in 4 it is like one in 3: with the participant in 3, the same report and the same next release
+  pub like-in-3 : (h : ℕ) → participantOf r i ≡ Terminating h → step r s ≡ step (withParticipant i Uncertain r) s
+
+-- for every release with room for participant i
+abbrev pub DeliveredAsWritten : Type 0
+DeliveredAsWritten = (r : Release) (s : Step) (d : Decision) (i : ℕ) → i < length (r .sites) → Brings r s d i → DecisionDelivered r s d i
+
+-- Under the demand's conditions on it, a participant that takes a decision by s holds it after one answered call of its own: termination is over
+abbrev pub OneCallLeft : Release → Step → List Step → ℕ → Type 0
+OneCallLeft r s ys i = AllUndisturbed i (step r s .next) ys → 1 ≤ answered i (step r s .next) ys → Holds (after (step r s .next) ys) i
+
+abbrev pub HeldAfterOneCall : Type 0
+HeldAfterOneCall =
+    (places n votes : ℕ) → n ≤ places → (xs : List Step) (s : Step) (ys : List Step) → AllInRange n (xs ++ (s ∷ ys)) → (d : Decision) (i : ℕ) → i < n
+    → Brings (after (fresh places n votes) xs) s d i → TakesDecision (participantOf (after (fresh places n votes) xs) i)
+    → OneCallLeft (after (fresh places n votes) xs) s ys i
