@@ -1,7 +1,7 @@
 //! What the compared cases amount to, so that nobody needs to trust that they mean something.
 
 use crate::schedules::records;
-use second::{report, Refusal};
+use second::{report, single_step, Header, Refusal, Tail};
 use std::fmt;
 
 /// The length of a report's tail, and the place of the counts of calls in it.
@@ -87,7 +87,7 @@ pub fn due_words(due: &[u64; 11]) -> String {
 }
 
 /// The figures of whole schedules. All are taken from the schedules and the reports that both sides
-/// agree on.
+/// agree on; the states between the steps are the second program's own.
 #[derive(Clone, Copy, Default)]
 pub struct ScheduleFigures {
     numbers: Numbers,
@@ -99,9 +99,10 @@ pub struct ScheduleFigures {
     most_calls: u16,
     coordinators_ended: Ended,
     participants_ended: Ended,
+    ended_by_decision: EndedByDecision,
 }
 
-/// Terminations that a call ended.
+/// Terminations that came to a decision.
 #[derive(Clone, Copy, Default)]
 struct Ended {
     commit: u64,
@@ -140,6 +141,41 @@ impl fmt::Display for Ended {
     }
 }
 
+/// Terminations that a delivered decision ended, itself or as a copy.
+#[derive(Clone, Copy, Default)]
+pub struct EndedByDecision {
+    delivered: Ended,
+    copied: Ended,
+}
+
+impl EndedByDecision {
+    /// Notes a step in range, with the state before it and its report byte.
+    pub fn note(&mut self, before: &Tail, step: [u32; 3], byte: u8) {
+        let (ended, participant) = match step {
+            [3, 4 | 5, participant] => (&mut self.delivered, participant),
+            [4, 4 | 5, participant] => (&mut self.copied, participant),
+            _ => return,
+        };
+        let terminating = before.participants[participant as usize - 1].state == 4;
+        let outcome = report::outcome(byte);
+        if terminating && (outcome == report::COMMIT || outcome == report::ABORT) {
+            ended.note(before.n as u8, outcome);
+        }
+    }
+
+    pub fn add(&mut self, other: &EndedByDecision) {
+        self.delivered.add(&other.delivered);
+        self.copied.add(&other.copied);
+    }
+}
+
+impl fmt::Display for EndedByDecision {
+    fn fmt(&self, to: &mut fmt::Formatter) -> fmt::Result {
+        let (delivered, copied) = (&self.delivered, &self.copied);
+        write!(to, "kind 03 {delivered}, kind 04 {copied}")
+    }
+}
+
 impl ScheduleFigures {
     pub fn note(&mut self, schedule: &[u8], report: &Result<Vec<u8>, Refusal>) {
         match report {
@@ -161,6 +197,7 @@ impl ScheduleFigures {
         for (record, byte) in records(&schedule[3..]).zip(bytes) {
             self.note_step(schedule[1], record, *byte);
         }
+        self.note_delivered(schedule, bytes);
     }
 
     fn note_step(&mut self, n: u8, record: &[u8], byte: u8) {
@@ -178,6 +215,28 @@ impl ScheduleFigures {
         }
     }
 
+    /// Notes the decisions delivered in a termination. The steps are taken once more for their
+    /// states, and only where a delivered decision was reported.
+    fn note_delivered(&mut self, schedule: &[u8], bytes: &[u8]) {
+        let mut steps = records(&schedule[3..]).zip(bytes);
+        let reported = |(record, byte): (&[u8], &u8)| {
+            matches!(record, [3 | 4, 4 | 5, _]) && *byte > report::MOVED
+        };
+        if !steps.any(reported) {
+            return;
+        }
+        let (n, votes) = (u32::from(schedule[1]), u32::from(schedule[2]));
+        let mut tail = Tail::fresh(Header { n, votes });
+        for (record, byte) in records(&schedule[3..]).zip(bytes) {
+            let number = |at| record.get(at).map_or(0, |number| u32::from(*number));
+            let step = [number(0), number(1), number(2)];
+            self.ended_by_decision.note(&tail, step, *byte);
+            if let Ok((next, _)) = single_step(&tail, step[0], step[1], step[2]) {
+                tail = next;
+            }
+        }
+    }
+
     pub fn add(&mut self, other: &ScheduleFigures) {
         self.numbers.add(&other.numbers);
         self.report_bytes.add(&other.report_bytes);
@@ -188,6 +247,7 @@ impl ScheduleFigures {
         self.most_calls = self.most_calls.max(other.most_calls);
         self.coordinators_ended.add(&other.coordinators_ended);
         self.participants_ended.add(&other.participants_ended);
+        self.ended_by_decision.add(&other.ended_by_decision);
     }
 
     pub fn schedules(&self) -> u64 {
@@ -202,7 +262,8 @@ impl fmt::Display for ScheduleFigures {
             "{} schedules, of these {}; up to {} bytes and {} calls of a party; \
              {} with a commit, {} with an abort; \
              steps: {}; {}; \
-             terminations that a call ended: coordinator {}, participant {}",
+             terminations that a call ended: coordinator {}, participant {}; \
+             that a delivered decision ended: {}",
             self.schedules(),
             self.numbers,
             self.longest,
@@ -212,7 +273,8 @@ impl fmt::Display for ScheduleFigures {
             self.report_bytes,
             due_words(&self.due),
             self.coordinators_ended,
-            self.participants_ended
+            self.participants_ended,
+            self.ended_by_decision
         )
     }
 }

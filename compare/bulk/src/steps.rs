@@ -2,7 +2,7 @@
 //! states in range that no run reaches.
 
 use crate::difference::{hexadecimal, Difference};
-use crate::figures::{add, due_words, Numbers, ReportBytes};
+use crate::figures::{add, due_words, EndedByDecision, Numbers, ReportBytes};
 use crate::jobs;
 use crate::lent::pattern;
 use crate::proved;
@@ -35,6 +35,7 @@ pub struct StepFigures {
     log_refused: u64,
     /// Calls whose answer the state cannot get.
     answer_unfit: u64,
+    ended_by_decision: EndedByDecision,
 }
 
 impl StepFigures {
@@ -45,6 +46,7 @@ impl StepFigures {
             0 => {
                 self.report_bytes.note(byte as u8);
                 self.due[step[0] as usize] += 1;
+                self.ended_by_decision.note(tail, step, byte as u8);
             }
             7 => self.note_call_not_due(tail, step),
             _ => (),
@@ -73,6 +75,7 @@ impl StepFigures {
         add(&mut self.due, &other.due);
         self.log_refused += other.log_refused;
         self.answer_unfit += other.answer_unfit;
+        self.ended_by_decision.add(&other.ended_by_decision);
     }
 
     pub fn calls(&self) -> u64 {
@@ -85,13 +88,15 @@ impl fmt::Display for StepFigures {
         write!(
             to,
             "{} steps: {}; {}; {}; \
-             not due since Log would be refused: {}, since the state cannot get the answer: {}",
+             not due since Log would be refused: {}, since the state cannot get the answer: {}; \
+             terminations that a delivered decision ended: {}",
             self.calls(),
             self.numbers,
             self.report_bytes,
             due_words(&self.due),
             self.log_refused,
-            self.answer_unfit
+            self.answer_unfit,
+            self.ended_by_decision
         )
     }
 }

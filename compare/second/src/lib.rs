@@ -1,6 +1,6 @@
-//! A second implementation of document 01 with request 2026-01: the store, the participant, the
-//! coordinator, the reader and writer of schedules, the marker that runs a schedule of one release,
-//! and the host entry.
+//! A second implementation of document 01 with requests 2026-01 and 2026-02: the store, the
+//! participant, the coordinator, the reader and writer of schedules, the marker that runs a
+//! schedule of one release, and the host entry.
 
 mod coordinator;
 mod host;

@@ -74,11 +74,12 @@ impl Participant {
         }
     }
 
-    /// After delivery of a decision, given as the record abort or commit.
+    /// After delivery of a decision, given as the record abort or commit. One that comes during
+    /// termination ends it: request 2026-02.
     pub fn decision(self, decision: u32) -> Participant {
         match (self.state, decision) {
-            (UNCERTAIN, store::COMMIT) => self.enter(RECORDING_COMMIT),
-            (UNCERTAIN, store::ABORT) => self.enter(RECORDING_ABORT),
+            (UNCERTAIN | TERMINATING, store::COMMIT) => self.enter(RECORDING_COMMIT),
+            (UNCERTAIN | TERMINATING, store::ABORT) => self.enter(RECORDING_ABORT),
             _ => self,
         }
     }

@@ -3,7 +3,7 @@
 
 mod common;
 
-use common::fresh;
+use common::{fresh, participants, Participant};
 use second::{host_step, single_step, Tail};
 
 const NUMBERS: [u32; 14] = [0, 1, 2, 3, 4, 5, 6, 7, 8, 9, 10, 255, 256, u32::MAX];
@@ -42,8 +42,22 @@ fn requests_and_decisions() {
         ((9, 0), (1, 1, 0), Ok([9, 0, 0])),
         ((9, 0), (2, 3, 0), Ok([9, 0, 0])),
         ((4, 1), (1, 0, 0), Ok([4, 1, 0])),
-        ((4, 1), (2, 2, 0), Ok([4, 1, 0])),
+        ((4, 1), (2, 3, 0), Ok([5, 0, 0])),
+        ((4, 1), (2, 2, 0), Ok([6, 0, 0])),
     ]);
+}
+
+#[test]
+fn a_decision_in_every_state() {
+    for (n, own, (state, heard)) in participants() {
+        let expected = |recording| match state {
+            3 | 4 => Ok([recording, 0, 0]),
+            _ => Ok([state as u8, 0, 0]),
+        };
+        let given = |decision| step(n, own, (state, heard), (2, decision, 0));
+        assert_eq!(given(3), expected(5), "{n} {own} {state} {heard}");
+        assert_eq!(given(2), expected(6), "{n} {own} {state} {heard}");
+    }
 }
 
 #[test]
@@ -185,26 +199,6 @@ fn release_step(tail: &Tail, own: u32, (event, detail): (u32, u32)) -> Result<[u
         fields.heard as u8,
         sent.unwrap_or(0) as u8,
     ])
-}
-
-/// A participant with its n, own number, state and heard mask.
-type Participant = (u32, u32, (u32, u32));
-
-/// Every participant of n up to 4 in every state, with every heard mask.
-fn participants() -> Vec<Participant> {
-    let mut participants = Vec::new();
-    for n in 1..=4 {
-        for own in 1..=n {
-            let others = ((1 << n) - 1) & !(1 << (own - 1));
-            let plain = (0..=9)
-                .filter(|&state| state != 4)
-                .map(|state| (n, own, (state, 0)));
-            let heard = (0..others).filter(|heard| heard & !others == 0);
-            participants.extend(plain);
-            participants.extend(heard.map(|heard| (n, own, (4, heard))));
-        }
-    }
-    participants
 }
 
 #[test]

@@ -10,10 +10,19 @@ use second::{report, single_step, Header, Record, Tail};
 const NO_VOTE: Header = Header { n: 1, votes: 0 };
 const YES_VOTE: Header = Header { n: 1, votes: 1 };
 const TWO_YES_VOTES: Header = Header { n: 2, votes: 3 };
+/// Participants 1 and 2 vote yes, participant 3 votes no.
+const TWO_OF_THREE: Header = Header { n: 3, votes: 3 };
 
 const CLOSED: &str =
     "4 is added exactly where a party writes the first record, an abort, into a log not its own";
 const NEVER_4_OR_6: &str = "bytes 4 and 6 never occur";
+const DECISION_DUE: &str = "the delivery of a decision is due exactly when it is in flight";
+const DECISION_TAKEN: &str =
+    "a decision delivered in participant state 3 or 4 leads just to 5 or 6 and is reported";
+const DECISION_WITHOUT_EFFECT: &str =
+    "a decision delivered in any other participant state has no effect";
+/// A shortest schedule of two in which a decision comes during termination.
+const ABORT_IN_TERMINATION: &str = "01 02 03 02 03 01 01 08 00 06 00 02 06 01 01 08 01 03 05 01";
 
 /// A step by the rules, in place; nothing if it is not due.
 fn by_the_rules(tail: &mut Tail, step: Record) -> Option<u8> {
@@ -45,6 +54,36 @@ fn writes_own_log(before: &Tail, step: Record, state: u32) -> bool {
         && step.first == step.second
         && is_empty(before, step)
         && before.participants[step.first as usize - 1].state == state
+}
+
+/// Whether the step delivers a decision or its copy to a participant in this state.
+fn delivers_decision(before: &Tail, step: Record, state: u32) -> bool {
+    matches!(step.kind, 0x03 | 0x04)
+        && matches!(step.first, 4 | 5)
+        && before.participants[step.second as usize - 1].state == state
+}
+
+/// A step by the rules, but a decision delivered in state 4 is dropped where `is_dropped` says so.
+fn with_dropped(tail: &mut Tail, step: Record, is_dropped: impl Fn(Record) -> bool) -> Option<u8> {
+    let before = *tail;
+    let byte = by_the_rules(tail, step)?;
+    if delivers_decision(&before, step, 4) && is_dropped(step) {
+        tail.participants = before.participants;
+        return Some(1);
+    }
+    Some(byte)
+}
+
+/// A step by the rules, but a decision delivered in this state leads to 5 or 6 too.
+fn with_taken(tail: &mut Tail, step: Record, state: u32) -> Option<u8> {
+    let taken = delivers_decision(tail, step, state);
+    let byte = by_the_rules(tail, step)?;
+    if !taken {
+        return Some(byte);
+    }
+    let (recording, outcome) = if step.first == 4 { (5, 2) } else { (6, 3) };
+    tail.participants[step.second as usize - 1].state = recording;
+    Some(outcome)
 }
 
 /// Asserts that a violation of this clause is found, with this schedule.
@@ -475,4 +514,143 @@ fn coordinator_that_does_not_wait() {
         "with all votes yes and no timeout or restart, no abort is ever reported",
         "01 01 01 02 06 00 01",
     );
+}
+
+#[test]
+fn decision_dropped_in_termination() {
+    let rules: Rules = |tail, step| with_dropped(tail, step, |_| true);
+    assert_violated(TWO_YES_VOTES, rules, DECISION_TAKEN, ABORT_IN_TERMINATION);
+    // One participant alone is never in state 4.
+    assert_eq!(check_rules(YES_VOTE, rules), check(YES_VOTE));
+}
+
+#[test]
+fn one_of_the_decisions_dropped_in_termination() {
+    let abort: Rules = |tail, step| with_dropped(tail, step, |step| step.first == 5);
+    assert_violated(TWO_YES_VOTES, abort, DECISION_TAKEN, ABORT_IN_TERMINATION);
+    let commit: Rules = |tail, step| with_dropped(tail, step, |step| step.first == 4);
+    let schedule =
+        "01 02 03 02 03 01 01 03 01 02 06 01 01 03 02 01 08 01 06 02 02 03 02 02 03 04 01";
+    assert_violated(TWO_YES_VOTES, commit, DECISION_TAKEN, schedule);
+}
+
+#[test]
+fn copy_of_a_decision_dropped_in_termination() {
+    let rules: Rules = |tail, step| with_dropped(tail, step, |step| step.kind == 0x04);
+    let schedule = "01 02 03 02 03 01 01 08 00 06 00 02 06 01 01 08 01 04 05 01";
+    assert_violated(TWO_YES_VOTES, rules, DECISION_TAKEN, schedule);
+}
+
+#[test]
+fn decision_in_termination_not_due() {
+    let rules = |tail: &mut Tail, step: Record| {
+        if delivers_decision(tail, step, 4) {
+            return None;
+        }
+        by_the_rules(tail, step)
+    };
+    assert_violated(TWO_YES_VOTES, rules, DECISION_DUE, ABORT_IN_TERMINATION);
+}
+
+#[test]
+fn decision_in_termination_due_without_being_in_flight() {
+    let rules = |tail: &mut Tail, step: Record| {
+        let delivers = delivers_decision(tail, step, 4);
+        by_the_rules(tail, step).or(delivers.then_some(1))
+    };
+    let schedule = "01 02 03 02 03 01 01 06 01 01 08 01 03 04 01";
+    assert_violated(TWO_YES_VOTES, rules, DECISION_DUE, schedule);
+}
+
+#[test]
+fn decision_in_termination_reported_as_moved() {
+    let rules = |tail: &mut Tail, step: Record| {
+        with_byte(tail, step, |before, byte| {
+            if delivers_decision(before, step, 4) {
+                return 1;
+            }
+            byte
+        })
+    };
+    assert_violated(TWO_YES_VOTES, rules, DECISION_TAKEN, ABORT_IN_TERMINATION);
+}
+
+#[test]
+fn heard_mask_kept_after_a_decision() {
+    let rules: Rules = |tail, step| {
+        let before = *tail;
+        let byte = by_the_rules(tail, step)?;
+        if delivers_decision(&before, step, 4) {
+            let place = step.second as usize - 1;
+            tail.participants[place].heard = before.participants[place].heard;
+        }
+        Some(byte)
+    };
+    let schedule =
+        "01 03 03 02 03 01 01 03 01 02 08 00 06 00 03 06 01 01 08 01 06 02 02 06 01 02 03 05 01";
+    assert_violated(TWO_OF_THREE, rules, DECISION_TAKEN, schedule);
+    // Of two, a participant that has heard the other one has left state 4.
+    assert_eq!(check_rules(TWO_YES_VOTES, rules), check(TWO_YES_VOTES));
+}
+
+#[test]
+fn delivered_decision_that_stays_in_flight() {
+    let rules = |tail: &mut Tail, step: Record| {
+        let before = *tail;
+        let byte = by_the_rules(tail, step)?;
+        if delivers_decision(&before, step, 4) {
+            tail.messages = before.messages;
+        }
+        Some(byte)
+    };
+    assert_violated(TWO_YES_VOTES, rules, DECISION_TAKEN, ABORT_IN_TERMINATION);
+}
+
+#[test]
+fn decision_taken_in_another_state() {
+    let cases: [(Header, Rules, &str); 8] = [
+        (
+            NO_VOTE,
+            |tail, step| with_taken(tail, step, 0),
+            "01 01 00 02 08 00 06 00 01 03 05 01",
+        ),
+        (
+            YES_VOTE,
+            |tail, step| with_taken(tail, step, 1),
+            "01 01 01 02 03 01 01 08 00 06 00 01 03 05 01",
+        ),
+        (
+            NO_VOTE,
+            |tail, step| with_taken(tail, step, 2),
+            "01 01 00 02 03 01 01 08 00 06 00 01 03 05 01",
+        ),
+        (
+            YES_VOTE,
+            |tail, step| with_taken(tail, step, 5),
+            "01 01 01 02 03 01 01 06 01 01 03 02 01 04 04 01 03 04 01",
+        ),
+        (
+            TWO_YES_VOTES,
+            |tail, step| with_taken(tail, step, 6),
+            "01 02 03 02 03 01 01 08 00 06 00 02 06 01 01 04 05 01 03 05 01",
+        ),
+        (
+            YES_VOTE,
+            |tail, step| with_taken(tail, step, 7),
+            "01 01 01 02 03 01 01 06 01 01 03 02 01 04 04 01 06 01 01 03 04 01",
+        ),
+        (
+            NO_VOTE,
+            |tail, step| with_taken(tail, step, 8),
+            "01 01 00 02 03 01 01 06 01 01 03 03 01 03 05 01",
+        ),
+        (
+            NO_VOTE,
+            |tail, step| with_taken(tail, step, 9),
+            "01 01 00 02 08 00 06 00 01 09 01 03 05 01",
+        ),
+    ];
+    for (header, rules, schedule) in cases {
+        assert_violated(header, rules, DECISION_WITHOUT_EFFECT, schedule);
+    }
 }

@@ -1,9 +1,13 @@
-//! The clauses that are looked at after every step: the report byte, the decisions, and the logs.
+//! The clauses that are looked at after every step: the report byte, the decisions reported and
+//! delivered, and the logs.
 
+use crate::message;
 use crate::model::state::Taken;
-use crate::participant::{CLOSING, RECORDING_ABORT, RECORDING_COMMIT, TERMINATING, VOTING_YES};
+use crate::participant::{
+    CLOSING, RECORDING_ABORT, RECORDING_COMMIT, TERMINATING, UNCERTAIN, VOTING_YES,
+};
 use crate::report;
-use crate::schedule::{Record, CALL_ANSWERED, CALL_ANSWER_LOST};
+use crate::schedule::{Record, CALL_ANSWERED, CALL_ANSWER_LOST, DELIVER, DELIVER_COPY};
 use crate::store::{Log, ABORT, COMMIT, NONE, YES};
 use crate::tail::Tail;
 
@@ -21,10 +25,19 @@ const LOST_ANSWER_UNHEARD: &str = "a lost answer changes nothing but the log";
 const NEVER_4_OR_6: &str = "bytes 4 and 6 never occur";
 const CLOSED_BY_ITS_RULE: &str =
     "4 is added exactly where a party writes the first record, an abort, into a log not its own";
+const DECISION_DUE: &str = "the delivery of a decision is due exactly when it is in flight";
+const DECISION_TAKEN: &str =
+    "a decision delivered in participant state 3 or 4 leads just to 5 or 6 and is reported";
+const DECISION_WITHOUT_EFFECT: &str =
+    "a decision delivered in any other participant state has no effect";
 const NO_ABORT: &str = "with all votes yes and no timeout or restart, no abort is ever reported";
 
 /// Checks one step of an exploration with all steps.
 pub fn check_step(taken: &Taken) -> Clause {
+    let delivers_decision = is_delivered_decision(taken.step);
+    if delivers_decision {
+        check_decision_due(taken)?;
+    }
     let Some(byte) = taken.report else {
         return holds(taken.after == *taken.before, NOT_DUE_LEAVES_ALL);
     };
@@ -36,7 +49,11 @@ pub fn check_step(taken: &Taken) -> Clause {
     }
     check_logs(taken)?;
     let closes = is_closing(taken);
-    holds(report::has_closed(byte) == closes, CLOSED_BY_ITS_RULE)
+    holds(report::has_closed(byte) == closes, CLOSED_BY_ITS_RULE)?;
+    if delivers_decision {
+        return check_delivered_decision(taken, byte);
+    }
+    Ok(())
 }
 
 /// Checks one step of an exploration without timeouts and restarts, all votes being yes.
@@ -78,6 +95,41 @@ fn is_closing(taken: &Taken) -> bool {
 
 fn is_call(step: Record) -> bool {
     matches!(step.kind, CALL_ANSWERED | CALL_ANSWER_LOST)
+}
+
+/// Whether the step is the delivery of a decision or of its copy.
+fn is_delivered_decision(step: Record) -> bool {
+    matches!(step.kind, DELIVER | DELIVER_COPY)
+        && matches!(step.first, message::COMMIT | message::ABORT)
+}
+
+fn check_decision_due(taken: &Taken) -> Clause {
+    let mask = taken.before.tail.messages[taken.step.first as usize - 1];
+    let in_flight = mask & (1 << (taken.step.second - 1)) != 0;
+    holds(taken.report.is_some() == in_flight, DECISION_DUE)
+}
+
+/// Checks the byte and the whole state after a due delivery of a decision, written out once more
+/// so that they do not rest on the participant's own function. The message is gone, a copy leaves
+/// it in flight.
+fn check_delivered_decision(taken: &Taken, byte: u8) -> Clause {
+    let (message, place) = (taken.step.first, taken.step.second as usize - 1);
+    let mut expected = taken.before.tail;
+    if taken.step.kind == DELIVER {
+        expected.messages[message as usize - 1] &= !(1 << place);
+    }
+    let fields = &mut expected.participants[place];
+    if !matches!(fields.state, UNCERTAIN | TERMINATING) {
+        let unchanged = taken.after.tail == expected;
+        return holds(unchanged && byte == report::MOVED, DECISION_WITHOUT_EFFECT);
+    }
+    let (state, outcome) = match message {
+        message::COMMIT => (RECORDING_COMMIT, report::COMMIT),
+        _ => (RECORDING_ABORT, report::ABORT),
+    };
+    (fields.state, fields.heard) = (state, 0);
+    let as_expected = taken.after.tail == expected && byte == outcome;
+    holds(as_expected, DECISION_TAKEN)
 }
 
 /// Checks what a due step does to the logs.

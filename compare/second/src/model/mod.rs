@@ -1,6 +1,7 @@
 //! A check by execution of what document 01's section "Whole lists and cuts" claims of every list
-//! of steps, and of what request 2026-01 says of their bytes: every reachable state of a release is
-//! explored, and every clause is looked at there.
+//! of steps, of what request 2026-01 says of their bytes, and of what a delivered decision does by
+//! request 2026-02: every reachable state of a release is explored, and every clause is looked at
+//! there.
 
 mod clauses;
 mod cuts;

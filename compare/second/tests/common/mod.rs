@@ -45,6 +45,26 @@ pub fn fresh(n: u32, votes: u32) -> Tail {
     Tail::fresh(Header { n, votes })
 }
 
+/// A participant with its n, own number, state and heard mask.
+pub type Participant = (u32, u32, (u32, u32));
+
+/// Every participant of n up to 8 in every state, with every heard mask.
+pub fn participants() -> Vec<Participant> {
+    let mut participants = Vec::new();
+    for n in 1..=8 {
+        for own in 1..=n {
+            let others = ((1 << n) - 1) & !(1 << (own - 1));
+            let plain = (0..=9)
+                .filter(|&state| state != 4)
+                .map(|state| (n, own, (state, 0)));
+            let heard = (0..others).filter(|heard| heard & !others == 0);
+            participants.extend(plain);
+            participants.extend(heard.map(|heard| (n, own, (4, heard))));
+        }
+    }
+    participants
+}
+
 /// Numbers that repeat from one test run to the next.
 pub struct Numbers(pub u64);
 
