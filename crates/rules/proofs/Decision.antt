@@ -69,10 +69,13 @@ byte-by r s d i b =
     ap stepByte (x .report) ∙ to-byte i (decided r d i) Sent.Nothing (x .from)
     ∙ ap (λ (l : List Site). outcomeNumber (learnt (known (participantAt l i)) (known (decided r d i)))) (x .sites)
 
+numbered : (p : Participant) (k : ℕ) → Participant.stateNumber p ≡ k → p ≡ Participant.participantOf k (Participant.heardOf p)
+numbered p k e = sym (participant-numbers .decoded p) ∙ ap (λ (j : ℕ). Participant.participantOf j (Participant.heardOf p)) e
+
 -- in 3 or 4 it knows no decision yet
 unknown : (p : Participant) → TakesDecision p → known p ≡ Outcome.Moved
-unknown p (inl e) = ap known (sym (participant-numbers .decoded p) ∙ ap (λ (k : ℕ). Participant.participantOf k (Participant.heardOf p)) e)
-unknown p (inr e) = ap known (sym (participant-numbers .decoded p) ∙ ap (λ (k : ℕ). Participant.participantOf k (Participant.heardOf p)) e)
+unknown p (inl e) = ap known (numbered p 3 e)
+unknown p (inr e) = ap known (numbered p 4 e)
 
 recording-byte : (d : Decision) → outcomeNumber (known (Participant.recording d)) ≡ decisionByte d
 recording-byte Decision.Commit = refl

@@ -32,7 +32,7 @@ pub record Brings (r : Release) (s : Step) (d : Decision) (i : ℕ) : Type 0 whe
 pub record DecisionDelivered (r : Release) (s : Step) (d : Decision) (i : ℕ) : Type 0 where
   -- in 3 or 4: to 5 or 6, and the heard mask is gone; in any other state no effect
   pub leads : DecisionLeads d (participantOf r i) (participantOf (step r s .next) i)
-  -- in 3 or 4 the step reports the decision; in any other state it is due and reports no more
+  -- in 3 or 4 the step reports the decision, in any other state moved
   pub reported : TakesDecision (participantOf r i) → stepByte (step r s) ≡ decisionByte d
   pub unreported : (TakesDecision (participantOf r i) → ⊥) → stepByte (step r s) ≡ 1
   -- in 4 it is like one in 3: with the participant in 3, the same report and the same next release
