@@ -2,7 +2,7 @@
 use mathlib.Core.Path.{_≡_, refl, sym, ap, _∙_, subst}
 use mathlib.Core.Logic.{_⊎_, inl, inr}
 use mathlib.Core.Bool.{true, false, false≢true}
-use mathlib.Core.List.{List, [], _∷_, _++_}
+use mathlib.Core.List.{List, [], _∷_}
 use Prim.Native.Nat.{ℕ, zero, suc, _≤_, _<_}
 use native.Mathlib.Omega.{arith}
 use native.Mathlib.Nat.{le-trans}
@@ -17,7 +17,7 @@ use Rattle.rules.specs.State.{participantAt, participantOf, waiting, fre
 use Rattle.rules.specs.Report.{outcomeNumber, moves, known, learnt, stepByte}
 use Rattle.rules.specs.Step.{drop, withParticipant, participantTo, receive, step}
 use Rattle.rules.specs.Run.{after}
-use Rattle.rules.specs.Decision.{decisionMessage, decisionByte, Brings, DecisionDelivered, DeliveredAsWritten, OneCallLeft, HeldAfterOneCall}
+use Rattle.rules.specs.Decision.{decisionMessage, decisionByte, Brings, DeliveredAsWritten, OneCallLeft, HeldAfterOneCall}
 use Rattle.rules.specs.Types.{Participant, Uncertain, Terminating, Sent, Decision, Site, Release, Step, Deliver, Copy, Outcome, Report}
 use Rattle.rules.proofs.Invariant.{Inv}
 use Rattle.rules.proofs.Updates.{Good}
