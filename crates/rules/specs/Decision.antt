@@ -42,7 +42,7 @@ pub record DecisionDelivered (r : Release) (s : Step) (d : Decision) (i : ℕ) :
 abbrev pub DeliveredAsWritten : Type 0
 DeliveredAsWritten = (r : Release) (s : Step) (d : Decision) (i : ℕ) → i < length (r .sites) → Brings r s d i → DecisionDelivered r s d i
 
--- Under the demand's conditions on it, a participant that takes a decision by s holds it after one answered call of its own: termination is over
+-- Under the demand's conditions on it, a participant that takes a decision by s holds a recorded decision after one answered call of its own
 abbrev pub OneCallLeft : Release → Step → List Step → ℕ → Type 0
 OneCallLeft r s ys i = AllUndisturbed i (step r s .next) ys → 1 ≤ answered i (step r s .next) ys → Holds (after (step r s .next) ys) i
 
