@@ -1,5 +1,5 @@
 -- A decision does to a participant what is written. Assumes nothing.
-use mathlib.Core.Path.{_≡_, refl, sym, ap₂, _∙_}
+use mathlib.Core.Path.{_≡_, refl, _∙_}
 use mathlib.Core.Logic.{_⊎_, inl, inr}
 use Prim.Native.Nat.{ℕ, _<_}
 use native.Mathlib.Omega.{arith}
@@ -7,7 +7,7 @@ use lib.Dec.{lit≤}
 use Rattle.participant.specs.Types.{Decision, Participant, Waiting, VotingYes, Closing, Uncertain, Terminating, RecordingCommit, RecordingAbort, DoneCommit, DoneAbort, Down}
 use Rattle.participant.specs.Participant.{participantOf, recording, onDecision}
 use Rattle.participant.specs.Decision.{TakesDecision, recordingNumber, DecisionLeads, DecisionAsWritten}
-use Rattle.participant.proofs.Numbers.{participant-numbers}
+use Rattle.participant.proofs.Numbers.{by-numbers}
 
 below : (k : ℕ) → k < 3 → (k ≡ 3) ⊎ (k ≡ 4) → ⊥
 below k l (inl e) = omega arith
@@ -39,7 +39,7 @@ decision-as-written d Down = stays Down d (beyond 9 (lit≤ tt))
 
 -- in 3 or 4
 pub takes-decision : (d : Decision) (p : Participant) → TakesDecision p → onDecision d p ≡ recording d
-takes-decision d p t = sym (participant-numbers .decoded (onDecision d p)) ∙ ap₂ participantOf (leads .state t) (leads .heard t) ∙ recorded d
+takes-decision d p t = by-numbers (onDecision d p) (recordingNumber d) 0 (leads .state t) (leads .heard t) ∙ recorded d
   where
     leads : DecisionLeads d p (onDecision d p)
     leads = decision-as-written d p

@@ -1,5 +1,5 @@
 -- The numbers of a participant's states, with their heard masks, and the way back belong together. Assumes nothing.
-use mathlib.Core.Path.{_≡_, refl}
+use mathlib.Core.Path.{_≡_, refl, sym, ap₂, _∙_}
 use mathlib.Core.Bool.{true}
 use Prim.Native.Nat.{ℕ, _≤_}
 use lib.Dec.{lit≤}
@@ -24,6 +24,10 @@ participant-decoded Down = refl
 
 pub participant-numbers : Inverse2 Participant.stateNumber Participant.heardOf Participant.participantOf
 participant-numbers = inverse2 Participant.stateNumber Participant.heardOf Participant.participantOf participant-decoded
+
+-- a participant is the one that its numbers find
+pub by-numbers : (p : Participant) (k h : ℕ) → Participant.stateNumber p ≡ k → Participant.heardOf p ≡ h → p ≡ Participant.participantOf k h
+by-numbers p k h s m = sym (participant-decoded p) ∙ ap₂ Participant.participantOf s m
 
 pub state-most : (p : Participant) → Participant.stateNumber p ≤ 9
 state-most Waiting = lit≤ tt

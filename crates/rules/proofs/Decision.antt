@@ -11,13 +11,13 @@ use lib.Seq.{getD-set-same}
 use Rattle.kind.specs.Step.{AllInRange}
 use Rattle.participant.specs.Participant
 use Rattle.participant.specs.Decision.{TakesDecision, DecisionLeads}
-use Rattle.participant.proofs.Numbers.{participant-numbers}
+use Rattle.participant.proofs.Numbers.{by-numbers}
 use Rattle.participant.proofs.Decision.{decision-as-written, takes-decision}
 use Rattle.rules.specs.State.{participantAt, participantOf, waiting, fresh}
 use Rattle.rules.specs.Report.{outcomeNumber, moves, known, learnt, stepByte}
 use Rattle.rules.specs.Step.{drop, withParticipant, participantTo, receive, step}
 use Rattle.rules.specs.Run.{after}
-use Rattle.rules.specs.Decision.{decisionMessage, decisionByte, Brings, DeliveredAsWritten, OneCallLeft, HeldAfterOneCall}
+use Rattle.rules.specs.Decision.{decisionMessage, decisionByte, DeliversDecision, DeliveredAsWritten, OneCallLeft, HeldAfterOneCall}
 use Rattle.rules.specs.Types.{Participant, Uncertain, Terminating, Sent, Decision, Site, Release, Step, Deliver, Copy, Outcome, Report}
 use Rattle.rules.proofs.Invariant.{Inv}
 use Rattle.rules.proofs.Updates.{Good}
@@ -43,7 +43,7 @@ receives : (d : Decision) (i : ℕ) (r : Release) → receive (decisionMessage d
 receives Decision.Commit i r = refl
 receives Decision.Abort i r = refl
 
-received : (r : Release) (s : Step) (d : Decision) (i : ℕ) → Brings r s d i → Received r s d i
+received : (r : Release) (s : Step) (d : Decision) (i : ℕ) → DeliversDecision r s d i → Received r s d i
 received r s d i b = go (b .delivery)
   where
     go : (s ≡ Deliver (decisionMessage d) (suc i)) ⊎ (s ≡ Copy (decisionMessage d) (suc i)) → Received r s d i
@@ -53,7 +53,7 @@ received r s d i b = go (b .delivery)
 
 -- where it leads, and what is reported
 
-taken-by : (r : Release) (s : Step) (d : Decision) (i : ℕ) → i < length (r .sites) → Brings r s d i → participantOf (step r s .next) i ≡ decided r d i
+taken-by : (r : Release) (s : Step) (d : Decision) (i : ℕ) → i < length (r .sites) → DeliversDecision r s d i → participantOf (step r s .next) i ≡ decided r d i
 taken-by r s d i room b =
     let x : Received r s d i = received r s d i b in
     ap (λ (t : Report). participantOf (t .next) i) (x .report) ∙ entered-own (x .from) i (decided r d i) Sent.Nothing (rw (x .sites) room)
@@ -62,20 +62,17 @@ to-byte : (i : ℕ) (p : Participant) (s : Sent) (r : Release) → stepByte (par
 unfolding participantTo
 to-byte i p s r = omega arith
 
-byte-by : (r : Release) (s : Step) (d : Decision) (i : ℕ) → Brings r s d i
+byte-by : (r : Release) (s : Step) (d : Decision) (i : ℕ) → DeliversDecision r s d i
     → stepByte (step r s) ≡ outcomeNumber (learnt (known (participantOf r i)) (known (decided r d i)))
 byte-by r s d i b =
     let x : Received r s d i = received r s d i b in
     ap stepByte (x .report) ∙ to-byte i (decided r d i) Sent.Nothing (x .from)
     ∙ ap (λ (l : List Site). outcomeNumber (learnt (known (participantAt l i)) (known (decided r d i)))) (x .sites)
 
-numbered : (p : Participant) (k : ℕ) → Participant.stateNumber p ≡ k → p ≡ Participant.participantOf k (Participant.heardOf p)
-numbered p k e = sym (participant-numbers .decoded p) ∙ ap (λ (j : ℕ). Participant.participantOf j (Participant.heardOf p)) e
-
 -- in 3 or 4 it knows no decision yet
 unknown : (p : Participant) → TakesDecision p → known p ≡ Outcome.Moved
-unknown p (inl e) = ap known (numbered p 3 e)
-unknown p (inr e) = ap known (numbered p 4 e)
+unknown p (inl e) = ap known (by-numbers p 3 (Participant.heardOf p) e refl)
+unknown p (inr e) = ap known (by-numbers p 4 (Participant.heardOf p) e refl)
 
 recording-byte : (d : Decision) → outcomeNumber (known (Participant.recording d)) ≡ decisionByte d
 recording-byte Decision.Commit = refl
@@ -119,7 +116,7 @@ module _ (r : Release) (d : Decision) (i : ℕ) where
       let u : participantOf uncertain i ≡ Uncertain = ap (λ (x : Site). x .participant) (getD-set-same (r .sites) i (record { participant = Uncertain }) waiting room) in
       rw (e, u) (ap reportWith (sym (set-twice (r .sites) i (record { participant = Uncertain }) (record { participant = Participant.recording d }))))
 
-like : (r : Release) (s : Step) (d : Decision) (i : ℕ) → i < length (r .sites) → Brings r s d i → (h : ℕ) → participantOf r i ≡ Terminating h
+like : (r : Release) (s : Step) (d : Decision) (i : ℕ) → i < length (r .sites) → DeliversDecision r s d i → (h : ℕ) → participantOf r i ≡ Terminating h
     → step r s ≡ step (withParticipant i Uncertain r) s
 like r s d i room b h e = go (b .delivery)
   where
@@ -142,7 +139,7 @@ delivered-as-written r s d i room b =
 
 -- one answered call is left
 
-one-call-left : (r : Release) → Inv r → (s : Step) (ys : List Step) → AllInRange (r .n) (s ∷ ys) → (d : Decision) (i : ℕ) → i < r .n → Brings r s d i
+one-call-left : (r : Release) → Inv r → (s : Step) (ys : List Step) → AllInRange (r .n) (s ∷ ys) → (d : Decision) (i : ℕ) → i < r .n → DeliversDecision r s d i
     → TakesDecision (participantOf r i) → OneCallLeft r s ys i
 one-call-left r v s ys h d i lt b t calm more =
     held-after (step r s .next) (g .inv) i (rw (g .same-n) lt) ys (rw (g .same-n) (h .1))

@@ -15,7 +15,7 @@ use Rattle.rules.specs.Run.{after}
 use Rattle.rules.specs.Demand.{Holds, answered, AllUndisturbed}
 use Rattle.rules.specs.Types.{Message, Decision, Uncertain, Terminating, Release, Step, Deliver, Copy}
 
--- the message that brings a decision, and the byte that reports it
+-- the message of a decision, and the byte that reports it
 abbrev pub decisionMessage : Decision → Message
 decisionMessage Decision.Commit = Message.Commit
 decisionMessage Decision.Abort = Message.Abort
@@ -25,7 +25,7 @@ decisionByte Decision.Commit = 2
 decisionByte Decision.Abort = 3
 
 -- step s delivers d, or a copy of it, to participant i
-pub record Brings (r : Release) (s : Step) (d : Decision) (i : ℕ) : Type 0 where
+pub record DeliversDecision (r : Release) (s : Step) (d : Decision) (i : ℕ) : Type 0 where
   pub delivery : (s ≡ Deliver (decisionMessage d) (suc i)) ⊎ (s ≡ Copy (decisionMessage d) (suc i))
   pub in-flight : inFlight r (decisionMessage d) i ≡ true
 
@@ -40,7 +40,7 @@ pub record DecisionDelivered (r : Release) (s : Step) (d : Decision) (i : ℕ) :
 
 -- for every release with room for participant i
 abbrev pub DeliveredAsWritten : Type 0
-DeliveredAsWritten = (r : Release) (s : Step) (d : Decision) (i : ℕ) → i < length (r .sites) → Brings r s d i → DecisionDelivered r s d i
+DeliveredAsWritten = (r : Release) (s : Step) (d : Decision) (i : ℕ) → i < length (r .sites) → DeliversDecision r s d i → DecisionDelivered r s d i
 
 -- Under the demand's conditions on it, a participant that takes a decision by s holds a recorded decision after one answered call of its own
 abbrev pub OneCallLeft : Release → Step → List Step → ℕ → Type 0
@@ -49,5 +49,5 @@ OneCallLeft r s ys i = AllUndisturbed i (step r s .next) ys → 1 ≤ answered i
 abbrev pub HeldAfterOneCall : Type 0
 HeldAfterOneCall =
     (places n votes : ℕ) → n ≤ places → (xs : List Step) (s : Step) (ys : List Step) → AllInRange n (xs ++ (s ∷ ys)) → (d : Decision) (i : ℕ) → i < n
-    → Brings (after (fresh places n votes) xs) s d i → TakesDecision (participantOf (after (fresh places n votes) xs) i)
+    → DeliversDecision (after (fresh places n votes) xs) s d i → TakesDecision (participantOf (after (fresh places n votes) xs) i)
     → OneCallLeft (after (fresh places n votes) xs) s ys i
