@@ -6,7 +6,7 @@ use Rattle.number.specs.Refusal.{Handed, hands}
 use Rattle.store.specs.Log.{recordNumber, recordOf}
 use Rattle.store.specs.Entry as Entry
 use Rattle.kind.specs.Kind.{kindNumber}
-use Rattle.export.specs.Types.{LogPair, Before, Read}
+use Rattle.export.specs.Types.{Kind, LogPair, Before, Read}
 
 -- the refusal's number or 0 in the upper 32 bits, the place or the length in the lower ones
 abbrev pub packed : Handed → ℕ
@@ -23,7 +23,7 @@ readPacked (Read.Refused k place) = packed (hands k place)
 
 -- the header that came before, or none
 abbrev pub beforeOf : ℕ → ℕ → ℕ → Before
-beforeOf told n votes = cond (eqb told 0) Before.Nothing (Before.Header (record { n = n; votes = votes }))
+beforeOf told n votes = cond (eqb told 0) Before.Nothing (Before.Header (record { kind = Kind.Header; n = n; votes = votes }))
 
 -- a log by the numbers of its records
 abbrev pub pairOf : ℕ → ℕ → LogPair

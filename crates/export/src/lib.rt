@@ -1,6 +1,7 @@
 // The public entries as C functions on bytes and numbers, for the comparison with the second program. Not part of the product's interface.
-pub mod state;
+pub mod single;
 
+use kind::Kind;
 use listing::list;
 use marker::run;
 use number::OUT_OF_RANGE;
@@ -107,7 +108,11 @@ fn before(told: u32, n: u32, votes: u32) -> Before
     if told == 0 {
         Before::Nothing
     } else {
-        Before::Header(Header { n: n, votes: votes })
+        Before::Header(Header {
+            kind: Kind::Header,
+            n: n,
+            votes: votes,
+        })
     }
 }
 

@@ -10,17 +10,17 @@ use Rattle.number.specs.Refusal.{tooShort}
 use Rattle.text.specs.Text.{ascii, hexadecimal, refusalLine}
 use Rattle.text.proofs.Laws.{decimal-length, refusal-length}
 use Rattle.schedule.specs.Schedule.{Reading, Accepted, Refused, readSchedule}
-use Rattle.schedule.proofs.Reading.{steps-few}
-use Rattle.schedule.proofs.RoundTrip.{bytes-kept, read-in-range}
-use Rattle.layout.specs.Tail.{tailLength}
+use Rattle.schedule.proofs.RoundTrip.{few-steps}
+use Rattle.form.proofs.Fits.{form-most}
+use Rattle.marker.specs.Report.{tailSize}
 use Rattle.marker.specs.Run.{readingAnswer, runAnswers, runLeaves}
 use Rattle.marker.proofs.Left.{ran, report-left}
 use Rattle.frame.specs.Types.{Step, Header, Written}
 use Rattle.frame.specs.Frame.{readingLine, lineOf, longestReport, longestLine}
 
-steps-most : (s : List ℕ) (h : Header) (steps : List Step) → readSchedule s ≡ Accepted h steps → length steps + tailLength ≤ longestReport
+steps-most : (s : List ℕ) (h : Header) (steps : List Step) → readSchedule s ≡ Accepted h steps → length steps + tailSize h ≤ longestReport
 steps-most s h steps e =
-    omega (arith, steps-few steps, ap length (bytes-kept s h steps e), read-in-range s h steps e .2)
+    omega (arith, few-steps s h steps e, form-most (h .kind))
 
 -- a run that is done
 
@@ -46,8 +46,8 @@ line-refused s room k at enough d = go (readSchedule s) refl d
     go : (x : Reading) → readSchedule s ≡ x → readingAnswer room x ≡ Written.Refused k at → refusalLine k at ≡ readingLine (readSchedule s)
     go (Accepted h steps) e d =
         let fits = steps-most s h steps e in
-        let t = le-ltb room (length steps + tailLength) (omega arith) in
-        let n : ℕ = length steps + tailLength in
+        let t = le-ltb room (length steps + tailSize h) (omega arith) in
+        let n : ℕ = length steps + tailSize h in
         let done : Written.Done n ≡ Written.Refused k at = sym (ap (λ b. cond b (Written.Refused tooShort n) (Written.Done n)) t) ∙ d in
         let z : _≡_ {A = ℕ} 0 1 = cc (done) in
         absurd (omega arith)

@@ -2,11 +2,13 @@
 use mathlib.Core.Path.{_≡_}
 use mathlib.Core.Logic.{_⊎_}
 use mathlib.Core.List.{List, _∷_, _++_}
-use Prim.Native.Nat.{ℕ, _+_, _/_, _%_, _≤_, _<_}
+use Prim.Native.Nat.{ℕ, _+_, _*_, _/_, _%_, _≤_, _<_}
 use lib.ListN.{length, take, drop}
 use Rattle.text.specs.Text.{ascii, hexadecimal, refusalLine}
 use Rattle.text.specs.Put.{each}
+use Rattle.schedule.specs.Record.{longest}
 use Rattle.schedule.specs.Schedule.{Reading, Accepted, Refused, readSchedule}
+use Rattle.form.specs.Form.{narrow, tailLength}
 use Rattle.marker.specs.Report.{reportBytes}
 use Rattle.frame.specs.Types.{Frame}
 
@@ -26,10 +28,10 @@ lineOf schedule = readingLine (readSchedule schedule)
 -- the most bytes that a report, a line and a frame have
 
 abbrev pub longestReport : ℕ
-longestReport = 32827
+longestReport = longest + tailLength narrow
 
 abbrev pub longestLine : ℕ
-longestLine = 65655
+longestLine = 2 * longestReport + 1
 
 abbrev pub longestFrame : ℕ
 longestFrame = 65537

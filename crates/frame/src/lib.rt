@@ -1,5 +1,5 @@
 // Many schedules, one after the other: each comes in a frame, and its report goes out as a line.
-use marker::TAIL;
+use form::TAIL;
 use marker::run;
 use schedule::LONGEST;
 use text::put;

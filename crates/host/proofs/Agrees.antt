@@ -15,17 +15,18 @@ use Rattle.rules.proofs.Agreement.{Later, later, fresh-inv}
 use Rattle.rules.proofs.Reached.{reached-in-range}
 use Rattle.event.specs.Event.{eventNumber, detailNumber, answerNumber, eventOf, eventInRange}
 use Rattle.event.proofs.Numbers.{event-numbers}
-use Rattle.host.specs.Types.{LogPair, Call, Logged, Performed, Participant, Transition, Release, Step, Event}
+use Rattle.kind.specs.Kind.{room}
+use Rattle.host.specs.Types.{Kind, LogPair, Call, Logged, Performed, Participant, Transition, Release, Step, Event}
 use Rattle.host.specs.Host.{answers, answered, onEvent, hostInRange, hostTransition, returned, left}
 use Rattle.host.specs.Agrees.{leads, HostAgrees, HostAgreesReached}
 
 -- the numbers of a participant and of an event are in range, and lead to what those lead to
 
 module _ (n i : ℕ) (p : Participant) (e : Event) where
-  numbers-in-range : n ≤ places → i < n → Participant.inRange n i p ≡ true → eventInRange n e ≡ true
+  numbers-in-range : n ≤ room Kind.Header → i < n → Participant.inRange n i p ≡ true → eventInRange n e ≡ true
       → hostInRange n (suc i) (Participant.stateNumber p) (Participant.heardOf p) (eventNumber e) (detailNumber e) (answerNumber e) ≡ true
   numbers-in-range l h q g =
-      and-true _ _ (and-true _ _ (le-leb 1 n (omega arith)) (le-leb n places l))
+      and-true _ _ (and-true _ _ (le-leb 1 n (omega arith)) (le-leb n (room Kind.Header) l))
       (and-true _ _ (and-true _ _ (le-leb 1 (suc i) (omega arith)) (le-leb (suc i) n h))
       (and-true _ _ participant
       (and-true _ _ (are-numbers3 eventNumber detailNumber answerNumber eventOf event-numbers e) (ap (eventInRange n) (event-numbers .decoded e) ∙ g))))
@@ -88,7 +89,7 @@ host-agrees r i l h q =
 pub host-agrees-reached : HostAgreesReached
 host-agrees-reached n votes fits w steps h i l =
     host-agrees (after (fresh places n votes) steps) i (rw (c .same-n) fits) (rw (c .same-n) l)
-    (reached-in-range places n votes (omega arith) fits w steps h .participants i (rw (c .same-n) l))
+    (reached-in-range places n votes (omega arith) (omega arith) w steps h .participants i (rw (c .same-n) l))
   where
     c : Later (fresh places n votes) (after (fresh places n votes) steps)
-    c = later (fresh places n votes) steps h (fresh-inv places n votes fits)
+    c = later (fresh places n votes) steps h (fresh-inv places n votes (omega arith))

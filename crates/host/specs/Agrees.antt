@@ -4,6 +4,7 @@ use mathlib.Core.Path.{_≡_}
 use mathlib.Core.Bool.{true}
 use mathlib.Core.List.{List}
 use Prim.Native.Nat.{ℕ, suc, _≤_, _<_}
+use Rattle.kind.specs.Kind.{room}
 use Rattle.kind.specs.Step.{AllInRange}
 use Rattle.mask.specs.Mask.{has, within}
 use Rattle.store.specs.Log.{perform, places}
@@ -12,7 +13,7 @@ use Rattle.rules.specs.State.{participantOf, logOf, inFlight, fresh}
 use Rattle.rules.specs.Step.{drop, participantGoes, participantAnswered, step}
 use Rattle.rules.specs.Run.{after}
 use Rattle.event.specs.Event.{eventNumber, detailNumber, answerNumber, eventInRange}
-use Rattle.host.specs.Types.{Logged, Performed, Message, Decision, Transition, Release, Step, Event}
+use Rattle.host.specs.Types.{Kind, Logged, Performed, Message, Decision, Transition, Release, Step, Event}
 use Rattle.host.specs.Host.{onEvent, returned, left, hostReturns, hostLeaves}
 
 -- what an event leads participant i to
@@ -49,10 +50,10 @@ pub record Agrees (r : Release) (i : ℕ) : Type 0 where
 
 -- for every participant in range
 abbrev pub HostAgrees : Type 0
-HostAgrees = (r : Release) (i : ℕ) → r .n ≤ places → i < r .n → Participant.inRange (r .n) i (participantOf r i) ≡ true → Agrees r i
+HostAgrees = (r : Release) (i : ℕ) → r .n ≤ room Kind.Header → i < r .n → Participant.inRange (r .n) i (participantOf r i) ≡ true → Agrees r i
 
 -- so for every one that a run reaches
 abbrev pub HostAgreesReached : Type 0
 HostAgreesReached =
-    (n votes : ℕ) → n ≤ places → within n votes ≡ true → (steps : List Step) → AllInRange n steps → (i : ℕ) → i < n
+    (n votes : ℕ) → n ≤ room Kind.Header → within n votes ≡ true → (steps : List Step) → AllInRange n steps → (i : ℕ) → i < n
     → Agrees (after (fresh places n votes) steps) i

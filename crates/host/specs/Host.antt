@@ -6,12 +6,12 @@ use lib.Dec.{ltb}
 use lib.ListN.{length}
 use lib.Seq.{sets}
 use Rattle.number.specs.Refusal.{accepted, outOfRange, tooShort, notDue}
-use Rattle.store.specs.Log.{places}
 use Rattle.message.specs.Message.{sentNumber}
 use Rattle.participant.specs.Participant
+use Rattle.kind.specs.Kind.{room}
 use Rattle.kind.specs.Step.{numberInRange}
 use Rattle.event.specs.Event.{eventOf, numbersInRange}
-use Rattle.host.specs.Types.{LogRecord, Call, Sent, Participant, Transition, NotDue, To, Event}
+use Rattle.host.specs.Types.{Kind, LogRecord, Call, Sent, Participant, Transition, NotDue, To, Event}
 
 -- An answer counts only where its call is pending; `own` and `j` are places
 abbrev pub answers : Call → Transition → Transition
@@ -31,10 +31,10 @@ onEvent n own p Event.Crash = Participant.onCrash p
 onEvent n own p Event.Restart = Participant.onRestart p
 onEvent n own p (Event.Answer log r) = answered n own p (log - 1) r
 
--- n, own number, state, heard mask, event, detail, record: each in range
+-- n, own number, state, heard mask, event, detail, record: each in range, and n no more than header 01 has room for
 abbrev pub hostInRange : ℕ → ℕ → ℕ → ℕ → ℕ → ℕ → ℕ → Bool
 hostInRange n own s h e d r =
-    numberInRange 1 n places && (numberInRange 1 own n && (Participant.numbersInRange n (own - 1) s h && numbersInRange n e d r))
+    numberInRange 1 n (room Kind.Header) && (numberInRange 1 own n && (Participant.numbersInRange n (own - 1) s h && numbersInRange n e d r))
 
 abbrev pub hostTransition : ℕ → ℕ → ℕ → ℕ → ℕ → ℕ → ℕ → Transition
 hostTransition n own s h e d r = onEvent n (own - 1) (Participant.participantOf s h) (eventOf e d r)

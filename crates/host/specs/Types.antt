@@ -10,6 +10,7 @@ pub use Rattle.message.specs.declared.Decision.{Decision}
 pub use Rattle.participant.specs.declared.Participant.{Participant}
 pub use Rattle.participant.specs.declared.Transition.{Transition}
 pub use Rattle.participant.specs.declared.Transition.the-variants.{NotDue, To}
+pub use Rattle.kind.specs.declared.Kind.{Kind}
 pub use Rattle.kind.specs.declared.Step.{Step}
 pub use Rattle.rules.specs.declared.Release.{Release}
 pub use Rattle.event.specs.declared.Event.{Event}

@@ -1,5 +1,6 @@
 // The host's entry: one participant, stepped from C on document 01's numbers. `own` is a participant's number; `place` is that less one.
 use event::Event;
+use kind::Kind;
 use kind::between;
 use number::NOT_DUE;
 use number::OUT_OF_RANGE;
@@ -8,7 +9,6 @@ use participant::Participant;
 use participant::Transition;
 use participant::to;
 use store::Call;
-use store::LOGS;
 use store::LogRecord;
 ghost use mathlib.Core.Path.{_≡_};
 ghost use mathlib.Core.Bool.{true};
@@ -73,7 +73,7 @@ fn hand_over(t: Transition, out: &mut [u8]) -> u32
 fn in_range(n: u32, own: u32, state: u32, heard: u32, event: u32, detail: u32, answer: u32) -> bool
     ensures { λ b. ⌜ b ≡ hostInRange n own state heard event detail answer ⌝ }
 {
-    if between(1, n, LOGS as u32) {
+    if between(1, n, Kind::NARROW) {
         if between(1, own, n) {
             if Participant::numbers_in_range(n, own - 1, state, heard) {
                 Event::numbers_in_range(n, event, detail, answer)

@@ -1,6 +1,6 @@
 -- The numbers of kinds and steps and the ways back belong together, and what numbers in range are. Assumes nothing.
-use mathlib.Core.Path.{_≡_, refl, ap, _∙_}
-use mathlib.Core.Bool.{true, false, _&&_}
+use mathlib.Core.Path.{_≡_, refl, sym, ap, _∙_}
+use mathlib.Core.Bool.{true, false, true≢false, _&&_}
 use Prim.Native.Nat.{ℕ, _+_, _≤_}
 use native.Mathlib.Omega.{arith}
 use lib.Dec.{leb, lit≤}
@@ -10,7 +10,7 @@ use Rattle.number.proofs.Laws.{and-left, and-right, and-true, inverse, inverse3
 use Rattle.message.specs.Message.{typeNumber}
 use Rattle.message.proofs.Numbers.{message-numbers, type-most}
 use Rattle.kind.specs.Types.{Message, Kind, Step}
-use Rattle.kind.specs.Kind.{kindNumber, kindOf, bodyLength, isHeader}
+use Rattle.kind.specs.Kind.{kindNumber, kindOf, bodyLength, isHeader, room}
 use Rattle.kind.specs.Step.{stepKind, stepNumber, firstNumber, secondNumber, ofKind, stepOf, isStep, numberInRange, inRange, numbersInRange}
 
 kind-back : (k : Kind) → kindOf (kindNumber k) ≡ k
@@ -52,17 +52,18 @@ kind-encoded k a b q =
     let e = step-numbers .encoded (kindNumber k) a b q in
     (rw (kind-numbers .decoded k) at (e .1), rw (kind-numbers .decoded k) at (e .2))
 
-pub header-kind : (k : Kind) → isHeader k ≡ true → k ≡ Kind.Header
-header-kind Kind.Header q = refl
-header-kind Kind.Start q = cc
-header-kind Kind.Deliver q = cc
-header-kind Kind.Copy q = cc
-header-kind Kind.Lose q = cc
-header-kind Kind.Call q = cc
-header-kind Kind.CallLost q = cc
-header-kind Kind.Timeout q = cc
-header-kind Kind.Crash q = cc
-header-kind Kind.Restart q = cc
+-- a header has n and a mask
+pub header-body : (k : Kind) → isHeader k ≡ true → 2 ≤ bodyLength k
+header-body Kind.Header q = lit≤ tt
+header-body Kind.Start q = absurd (true≢false (sym q))
+header-body Kind.Deliver q = absurd (true≢false (sym q))
+header-body Kind.Copy q = absurd (true≢false (sym q))
+header-body Kind.Lose q = absurd (true≢false (sym q))
+header-body Kind.Call q = absurd (true≢false (sym q))
+header-body Kind.CallLost q = absurd (true≢false (sym q))
+header-body Kind.Timeout q = absurd (true≢false (sym q))
+header-body Kind.Crash q = absurd (true≢false (sym q))
+header-body Kind.Restart q = absurd (true≢false (sym q))
 
 pub step-no-header : (s : Step) → isHeader (stepKind s) ≡ false
 step-no-header Step.Start = refl
@@ -177,3 +178,29 @@ more-steps n m h (Step.Restart p) q = more-parties p n m h q
 
 pub more-tested : (n m : ℕ) → n ≤ m → (k a b : ℕ) → numbersInRange n k a b ≡ true → numbersInRange m k a b ≡ true
 more-tested n m h k a b q = and-true _ _ (and-left (isStep k a b) _ q) (more-steps n m h (stepOf k a b) (and-right (isStep k a b) _ q))
+
+-- no kind has more room than header 01, and a kind with room is a header's
+
+pub room-most : (k : Kind) → room k ≤ room Kind.Header
+room-most Kind.Header = lit≤ tt
+room-most Kind.Start = lit≤ tt
+room-most Kind.Deliver = lit≤ tt
+room-most Kind.Copy = lit≤ tt
+room-most Kind.Lose = lit≤ tt
+room-most Kind.Call = lit≤ tt
+room-most Kind.CallLost = lit≤ tt
+room-most Kind.Timeout = lit≤ tt
+room-most Kind.Crash = lit≤ tt
+room-most Kind.Restart = lit≤ tt
+
+pub no-room : (k : Kind) → isHeader k ≡ false → room k ≡ 0
+no-room Kind.Header q = absurd (true≢false q)
+no-room Kind.Start q = refl
+no-room Kind.Deliver q = refl
+no-room Kind.Copy q = refl
+no-room Kind.Lose q = refl
+no-room Kind.Call q = refl
+no-room Kind.CallLost q = refl
+no-room Kind.Timeout q = refl
+no-room Kind.Crash q = refl
+no-room Kind.Restart q = refl

@@ -51,3 +51,16 @@ isHeader Kind.CallLost = false
 isHeader Kind.Timeout = false
 isHeader Kind.Crash = false
 isHeader Kind.Restart = false
+
+-- how many participants a header of that kind has room for; a step's kind has none
+abbrev pub room : Kind → ℕ
+room Kind.Header = 8
+room Kind.Start = 0
+room Kind.Deliver = 0
+room Kind.Copy = 0
+room Kind.Lose = 0
+room Kind.Call = 0
+room Kind.CallLost = 0
+room Kind.Timeout = 0
+room Kind.Crash = 0
+room Kind.Restart = 0

@@ -1,7 +1,7 @@
 // What a schedule is made of: kinds with the length of their body, and steps with their numbers.
 use message::Message;
 ghost use mathlib.Core.Path.{_≡_};
-ghost use Rattle.kind.specs.Kind.{kindNumber, kindOf, bodyLength, isHeader};
+ghost use Rattle.kind.specs.Kind.{kindNumber, kindOf, bodyLength, isHeader, room};
 ghost use Rattle.kind.specs.Step.{ofKind, numberInRange, namesMessage, namesParty, namesPlace, leastFirst, greatestFirst, leastSecond, greatestSecond, firstInRange, secondInRange, numbersInRange};
 
 // The kind of a record.
@@ -38,6 +38,9 @@ impl Kind {
     pub const ONE_NUMBER: usize = 1;
 
     pub const TWO_NUMBERS: usize = 2;
+
+    // How many participants a header of kind 01 has room for.
+    pub const NARROW: u32 = 8;
 
     // Its number.
     pub fn number(self) -> u32
@@ -104,6 +107,24 @@ impl Kind {
             Kind::Timeout => false,
             Kind::Crash => false,
             Kind::Restart => false,
+        }
+    }
+
+    // How many participants a header of this kind has room for. A step's kind has none.
+    pub fn room(self) -> u32
+        ensures { λ m. ⌜ m ≡ room self ⌝ }
+    {
+        match self {
+            Kind::Header => Kind::NARROW,
+            Kind::Start => 0,
+            Kind::Deliver => 0,
+            Kind::Copy => 0,
+            Kind::Lose => 0,
+            Kind::Call => 0,
+            Kind::CallLost => 0,
+            Kind::Timeout => 0,
+            Kind::Crash => 0,
+            Kind::Restart => 0,
         }
     }
 }

@@ -1,4 +1,2 @@
 pub mod Types
-pub mod Tail
-pub mod Low
-pub mod Read
+pub mod Numbers

@@ -1,98 +1,128 @@
-// The layout of the tail. Each function puts its bytes at a place that has room for them, and answers the place after them.
+// The layout of the tail, in each of its forms, put from the numbers of a release and its store. Each function puts its bytes at a place that has
+// room for them, and answers the place after them.
 pub mod read;
 
-use rules::PARTIES;
+use form::COUNT_WIDTH;
+use form::Form;
+use form::NUMBER_WIDTH;
+use number::low;
 use rules::TYPES;
-use store::LOGS;
-use tail::ParticipantFields;
-use tail::Tail;
-ghost use mathlib.Core.Path.{_≡_};
-ghost use mathlib.Core.List.{[], _∷_};
-ghost use Prim.Native.Nat.{_+_, _%_, _≤_};
-ghost use lib.ListN.{length};
+use state::COORDINATOR;
+use state::COUNTS;
+use state::FIELDS;
+use state::HEARD;
+use state::MESSAGES;
+use state::STATES;
+use state::VOTES;
+use store::LogPair;
+use store::Store;
+ghost use Prim.Native.Nat.{suc, _+_, _*_, _≤_};
+ghost use lib.ListN.{length, take};
+ghost use Rattle.number.specs.Low.{lowBytes};
+ghost use Rattle.number.specs.Table.{tabulate};
+ghost use Rattle.store.specs.Log.{places};
+ghost use Rattle.rules.specs.State.{types};
 ghost use Rattle.text.specs.Put.{Put, each};
-ghost use Rattle.layout.specs.Tail.{countBytes};
-ghost use Rattle.layout.specs.Low.{lowBytes, lowByte, lowFields, lowTail};
+ghost use Rattle.state.specs.Fields.{nIn, votesIn, coordinatorStateIn, coordinatorHeardIn, messageIn, callsIn};
+ghost use Rattle.form.specs.Form.{FormFits, countWidth, headBytes, fieldBytes, tailBytes, messagesAt, participantLength, tailLength};
+ghost use Rattle.layout.specs.Numbers.{partyFields, fieldsFrom, tailFrom};
 
-// A number of the tail, all of which are below 256.
-fn byte(x: u32) -> u8
-    ensures { λ b. ⌜ b ≡ x % 256 ⌝ }
+// n, votes, the coordinator's state and heard mask.
+fn put_head(report: &mut [u8], place: usize, fields: &[u32; FIELDS], width: usize) -> usize
+    requires { ⌜ place + messagesAt width ≤ length (now report) ⌝ }
+    ensures { λ end. ⌜ Put (now (report .entry)) place (headBytes width (nIn (now (fields .entry))) (votesIn (now (fields .entry))) (coordinatorStateIn (now (fields .entry))) (coordinatorHeardIn (now (fields .entry)))) end (now (report .exit)) ⌝ }
 {
-    (x % 256) as u8
+    let a = low::put(report, place, NUMBER_WIDTH, fields[0]);
+    let b = low::put(report, a, width, fields[VOTES]);
+    let c = low::put(report, b, NUMBER_WIDTH, fields[COORDINATOR]);
+    low::put(report, c, width, fields[COORDINATOR + 1])
 }
 
-fn put_four(report: &mut [u8], place: usize, a: u32, b: u32, c: u32, d: u32) -> usize
-    requires { ⌜ place + 4 ≤ length (now report) ⌝ }
-    ensures { λ end. ⌜ Put (now (report .entry)) place (lowBytes (a ∷ b ∷ c ∷ d ∷ [])) end (now (report .exit)) ⌝ }
-{
-    report[place] = byte(a);
-    report[place + 1] = byte(b);
-    report[place + 2] = byte(c);
-    report[place + 3] = byte(d);
-    place + 4
-}
-
-fn put_messages(report: &mut [u8], place: usize, messages: [u32; TYPES]) -> usize
-    requires { ⌜ place + length (each lowByte messages) ≤ length (now report) ⌝ }
-    ensures { λ end. ⌜ Put (now (report .entry)) place (each lowByte messages) end (now (report .exit)) ⌝ }
+// The mask of each type of message.
+fn put_messages(report: &mut [u8], place: usize, fields: &[u32; FIELDS], width: usize) -> usize
+    requires { ⌜ place + types * width ≤ length (now report) ⌝ }
+    ensures { λ end. ⌜ Put (now (report .entry)) place (each (lowBytes width) (tabulate types (messageIn (now (fields .entry))))) end (now (report .exit)) ⌝ }
 {
     let mut at = place;
-    for i in 0..TYPES {
-        report[at] = byte(messages[i]);
-        at = at + 1;
+    for k in 0..TYPES {
+        at = low::put(report, at, width, fields[MESSAGES + k]);
     }
     at
 }
 
-// For participants 1 to 8 state, heard mask, first, last.
+// A participant: state, heard mask, first, last.
+fn put_participant(
+    report: &mut [u8],
+    place: usize,
+    width: usize,
+    state: u32,
+    heard: u32,
+    log: LogPair,
+) -> usize
+    requires { ⌜ place + participantLength width ≤ length (now report) ⌝ }
+    ensures { λ end. ⌜ Put (now (report .entry)) place (fieldBytes width (partyFields state heard log)) end (now (report .exit)) ⌝ }
+{
+    let first = log.first;
+    let last = log.last;
+    let a = low::put(report, place, NUMBER_WIDTH, state);
+    let b = low::put(report, a, width, heard);
+    let c = low::put(report, b, NUMBER_WIDTH, first.number());
+    low::put(report, c, NUMBER_WIDTH, last.number())
+}
+
+// Each participant of the form.
 fn put_participants(
     report: &mut [u8],
     place: usize,
-    participants: [ParticipantFields; LOGS],
+    fields: &[u32; FIELDS],
+    store: Store,
+    form: Form,
 ) -> usize
-    requires { ⌜ place + length (each lowFields participants) ≤ length (now report) ⌝ }
-    ensures { λ end. ⌜ Put (now (report .entry)) place (each lowFields participants) end (now (report .exit)) ⌝ }
+    requires { ⌜ FormFits form × (place + form .places * participantLength (form .width) ≤ length (now report)) ⌝ }
+    ensures { λ end. ⌜ Put (now (report .entry)) place (each (fieldBytes (form .width)) (take (form .places) (tabulate places (fieldsFrom (now (fields .entry)) store)))) end (now (report .exit)) ⌝ }
 {
+    let many = form.places;
     let mut at = place;
-    for i in 0..LOGS {
-        let f = participants[i];
-        at = put_four(report, at, f.state, f.heard, f.first, f.last);
+    for i in 0..many {
+        let log = store.log_at(i);
+        at = put_participant(
+            report,
+            at,
+            form.width,
+            fields[STATES + i],
+            fields[HEARD + i],
+            log,
+        );
     }
     at
 }
 
-// Two bytes, low first.
-fn put_count(report: &mut [u8], place: usize, k: u16) -> usize
-    requires { ⌜ place + 2 ≤ length (now report) ⌝ }
-    ensures { λ end. ⌜ Put (now (report .entry)) place (countBytes k) end (now (report .exit)) ⌝ }
+// For each party of the form the due store calls made.
+fn put_counts(report: &mut [u8], place: usize, fields: &[u32; FIELDS], form: Form) -> usize
+    requires { ⌜ FormFits form × (place + suc (form .places) * countWidth ≤ length (now report)) ⌝ }
+    ensures { λ end. ⌜ Put (now (report .entry)) place (each (lowBytes countWidth) (take (suc (form .places)) (tabulate (suc places) (callsIn (now (fields .entry)))))) end (now (report .exit)) ⌝ }
 {
-    report[place] = (k % 256) as u8;
-    report[place + 1] = (k / 256) as u8;
-    place + 2
-}
-
-// For parties 0 to 8 the due store calls made.
-fn put_calls(report: &mut [u8], place: usize, calls: [u16; PARTIES]) -> usize
-    requires { ⌜ place + length (each countBytes calls) ≤ length (now report) ⌝ }
-    ensures { λ end. ⌜ Put (now (report .entry)) place (each countBytes calls) end (now (report .exit)) ⌝ }
-{
+    let many = form.places + 1;
     let mut at = place;
-    for p in 0..PARTIES {
-        let k = calls[p];
-        at = put_count(report, at, k);
+    for p in 0..many {
+        at = low::put(report, at, COUNT_WIDTH, fields[COUNTS + p]);
     }
     at
 }
 
-pub fn put_tail(report: &mut [u8], place: usize, t: Tail) -> usize
-    requires { ⌜ place + length (lowTail t) ≤ length (now report) ⌝ }
-    ensures { λ end. ⌜ Put (now (report .entry)) place (lowTail t) end (now (report .exit)) ⌝ }
+// The tail of the release that the numbers and the store represent.
+pub fn put_tail(
+    report: &mut [u8],
+    place: usize,
+    fields: &[u32; FIELDS],
+    store: Store,
+    form: Form,
+) -> usize
+    requires { ⌜ FormFits form × (place + tailLength form ≤ length (now report)) ⌝ }
+    ensures { λ end. ⌜ Put (now (report .entry)) place (tailBytes form (tailFrom (now (fields .entry)) store)) end (now (report .exit)) ⌝ }
 {
-    let messages = t.messages;
-    let participants = t.participants;
-    let calls = t.calls;
-    let sent = put_four(report, place, t.n, t.votes, t.state, t.heard);
-    let parties = put_messages(report, sent, messages);
-    let counts = put_participants(report, parties, participants);
-    put_calls(report, counts, calls)
+    let messages = put_head(report, place, fields, form.width);
+    let participants = put_messages(report, messages, fields, form.width);
+    let counts = put_participants(report, participants, fields, store, form);
+    put_counts(report, counts, fields, form)
 }

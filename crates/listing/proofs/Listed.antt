@@ -1,25 +1,29 @@
 -- What is left in a text, by the parts put into it and by what the first pass answered. Assumes nothing.
 use mathlib.Core.Path.{_≡_, refl, sym, ap, ap₂, _∙_}
-use mathlib.Core.List.{List, [], _∷_, _++_}
-use Prim.Native.Nat.{ℕ, suc, _+_, _≤_, _<_}
+use mathlib.Core.Bool.{true}
+use mathlib.Core.List.{List, _++_}
+use Prim.Native.Nat.{ℕ, _+_, _≤_, _<_}
 use native.Mathlib.Omega.{arith}
-use lib.ListN.{length, getD, take}
+use lib.ListN.{length, take}
 use lib.Seq.{sets}
 use borrow.Author.Tests.{lt-ltb, le-ltb}
 use Rattle.number.specs.Refusal.{tooShort}
 use Rattle.text.specs.Put.{Put}
 use Rattle.text.proofs.Putting.{put-front}
 use Rattle.store.specs.Log.{places}
+use Rattle.kind.specs.Kind.{room}
 use Rattle.schedule.specs.Schedule.{Reading, Accepted, Refused, readSchedule}
-use Rattle.schedule.proofs.Laws.{header-size}
+use Rattle.schedule.specs.Record.{headerInRange}
+use Rattle.kind.proofs.Numbers.{room-most}
+use Rattle.schedule.proofs.Laws.{header-room}
 use Rattle.rules.specs.Run.{reports, after}
-use Rattle.rules.specs.Step.{step}
-use Rattle.rules.proofs.Agreement.{replicate-all}
-use Rattle.rules.proofs.Counts.{one-call-more}
 use Rattle.rules.proofs.Room.{after-room}
+use Rattle.state.specs.Fields.{fields, releaseIn}
+use Rattle.state.proofs.Filling.{release-in}
 use Rattle.passes.specs.Pass.{validated, stepsOf, freshOf, stepBytes}
 use Rattle.passes.proofs.Passed.{passed, bytes-length}
-use Rattle.listing.specs.Types.{Step, Header, Written, Release, Validated}
+use Rattle.passes.proofs.Begun.{run-places, run-calls}
+use Rattle.listing.specs.Types.{Kind, Step, Header, Written, Release, Store, Validated}
 use Rattle.text.specs.Text.{refusalLine}
 use Rattle.listing.specs.Listing.{endLines, readingText, listing}
 use Rattle.lines.specs.Lines.{byteLines}
@@ -36,20 +40,12 @@ module _ (text bytes : List ℕ) (needed : ℕ) (e : needed ≡ length bytes) wh
       → (Written.Done needed ≡ textAnswer (length text) bytes) × (after ≡ textLeft text bytes)
   text-fits h p = rw e (simp (le-ltb (length text) (length bytes) (omega arith)) (refl, p .leaves))
 
--- The counts after some steps
-
-calls-few : (r : Release) (steps : List Step) (most : ℕ) → ((p : ℕ) → getD (r .calls) p 0 ≤ most) → (p : ℕ) → getD (after r steps .calls) p 0 ≤ most + length steps
-calls-few r [] most few p = omega (arith, few p)
-calls-few r (s ∷ ss) most few p =
-    omega (arith, calls-few (step r s .next) ss (suc most) (λ q. omega (arith, few q, one-call-more r s q)) p)
-
--- the counts of a run are at most as many as its steps
-pub run-calls : (h : Header) (steps : List Step) (p : ℕ) → getD (after (freshOf h) steps .calls) p 0 ≤ length steps
-run-calls h steps p =
-    omega (arith, calls-few (freshOf h) steps 0 (λ q. replicate-all (λ k. k ≤ 0) (suc places) q 0 (omega arith)) p)
+-- no header has more participants than header 01 has room for
+pub header-most : (h : Header) → headerInRange h ≡ true → h .n ≤ room Kind.Header
+header-most h q = omega (arith, header-room h q .1, room-most (h .kind))
 
 -- a run keeps its header's n
-pub run-n : (h : Header) (steps : List Step) → h .n ≤ places → after (freshOf h) steps .n ≤ places
+pub run-n : (h : Header) (steps : List Step) → h .n ≤ room Kind.Header → after (freshOf h) steps .n ≤ room Kind.Header
 run-n h steps small = rw (after-room (freshOf h) steps .same-n) small
 
 -- A schedule that was validated, and one that was refused
@@ -60,8 +56,16 @@ module _ (s : List ℕ) (h : Header) (m : ℕ) (c : validated (readSchedule s) �
   run-small r e =
       let x = passed s h m c in
       let steps : List Step = stepsOf (readSchedule s) in
-      let small = run-n h steps (header-size h (x .header) .1) in
-      rw e (small, end-few (after (freshOf h) steps) small (λ p. omega (arith, run-calls h steps p, x .long, x .few, x .short)))
+      let small = run-n h steps (header-most h (x .header)) in
+      rw e (omega arith, end-few (after (freshOf h) steps) small (λ p. omega (arith, run-calls h steps p, x .long, x .few, x .short)))
+
+  -- the numbers and the store that its steps leave represent that release
+  pub run-release : (l : List ℕ) (store : Store) → l ≡ fields (after (freshOf h) (stepsOf (readSchedule s))) → store ≡ after (freshOf h) (stepsOf (readSchedule s)) .store
+      → releaseIn l store ≡ after (freshOf h) (stepsOf (readSchedule s))
+  run-release l store p q =
+      let x = passed s h m c in
+      let steps : List Step = stepsOf (readSchedule s) in
+      ap₂ releaseIn p q ∙ release-in (after (freshOf h) steps) (run-places h steps) (λ p. omega (arith, run-calls h steps p, x .long, x .few, x .short))
 
   -- the step bytes, at the front of a buffer with room for them
   pub run-bytes : (before after : List ℕ) → m ≤ length before → after ≡ sets before 0 (stepBytes (freshOf h) (stepsOf (readSchedule s)))

@@ -5,11 +5,13 @@ use lines::put_lines;
 use lines::put_logs;
 use number::TOO_SHORT;
 use passes::Validated;
-use passes::run_steps;
+use passes::run_fresh;
 use passes::validate;
 use rules::Release;
 use schedule::Header;
 use schedule::LONGEST;
+use state::fresh;
+use state::release;
 use text::put;
 use text::put_refusal;
 use writer::Written;
@@ -71,7 +73,9 @@ fn list_steps(schedule: &[u8], header: Header, steps: usize, text: &mut [u8]) ->
         × (now (text .exit) ≡ listLeaves (now (text .entry)) (now (schedule .entry))) ⌝ }
 {
     let mut bytes = [0u8; LONGEST];
-    let end = run_steps(schedule, header, steps, &mut bytes);
+    let mut fields = fresh(header.n, header.votes);
+    let store = run_fresh(schedule, header, steps, &mut fields, &mut bytes);
+    let end = release(&fields, store);
     let mut last = [0u8; LAST];
     let length = put_end(&mut last, end);
     put_listing(&bytes[..steps], &last[..length], text)

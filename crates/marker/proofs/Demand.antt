@@ -8,7 +8,7 @@ use lib.Seq.{split-at}
 use Rattle.store.specs.Log.{places}
 use Rattle.schedule.specs.Schedule.{scheduleBytes}
 use Rattle.schedule.proofs.Laws.{header-size}
-use Rattle.schedule.proofs.RoundTrip.{steps-kept, read-in-range}
+use Rattle.schedule.proofs.RoundTrip.{steps-kept, read-in-range, few-steps}
 use Rattle.rules.specs.State.{firstOf}
 use Rattle.rules.specs.Report.{stepByte}
 use Rattle.rules.specs.Step.{step}
@@ -72,7 +72,9 @@ marked-holds report schedule written e =
       closed =
           subst (ClosedHold (x .header) (x .steps)) (sym (steps-left report schedule (x .header) (x .steps) (x .accepted) (x .room)))
           (closed-holds (x .header) (x .steps) (header-size (x .header) (q .0) .1) (q .1));
-      counts = subst (CountsHold (x .header) (x .steps)) (sym (tail-left report schedule (x .header) (x .steps) (x .accepted) (x .room))) (counts-hold (x .header) (x .steps));
+      counts =
+          subst (CountsHold (x .header) (x .steps)) (sym (tail-left report schedule (x .header) (x .steps) (x .accepted) (x .room)))
+          (counts-hold (x .header) (x .steps) (q .0) (q .1) (few-steps schedule (x .header) (x .steps) (x .accepted)));
     })
 
 pub list-marked : ListMarked

@@ -15,8 +15,8 @@ use Rattle.tail.specs.Tail.{tailOf}
 use Rattle.passes.specs.Pass.{validated, stepsOf, freshOf, stepBytes}
 use Rattle.passes.proofs.Passed.{passed, bytes-length}
 use Rattle.marker.specs.Types.{Header, Written, Validated}
-use Rattle.layout.specs.Tail.{tailBytes, tailLength}
-use Rattle.marker.specs.Report.{reportBytes}
+use Rattle.form.specs.Form.{formOf, tailBytes}
+use Rattle.marker.specs.Report.{reportBytes, tailSize}
 use Rattle.marker.specs.Run.{readingAnswer, readingLeaves, runAnswers, runLeaves}
 
 -- a refusal of the first pass is the run's
@@ -26,21 +26,21 @@ refused (Accepted h steps) k p c room out = let z : _≡_ {A = ℕ} 0 1 = cc in 
 refused (Refused k′ p′) k p c room out = (cc, refl)
 
 module _ (s : List ℕ) (h : Header) (m : ℕ) (c : validated (readSchedule s) ≡ Validated.Steps h m) where
-  pub answered : (room : ℕ) → runAnswers room s ≡ roomAnswer room (m + tailLength)
+  pub answered : (room : ℕ) → runAnswers room s ≡ roomAnswer room (m + tailSize h)
   answered room =
-      ap (readingAnswer room) (passed s h m c .accepted) ∙ ap (λ l. roomAnswer room (l + tailLength)) (passed s h m c .long)
+      ap (readingAnswer room) (passed s h m c .accepted) ∙ ap (λ l. roomAnswer room (l + tailSize h)) (passed s h m c .long)
 
-  pub left : (out : List ℕ) → runLeaves out s ≡ cond (ltb (length out) (m + tailLength)) out (sets out 0 (reportBytes h (stepsOf (readSchedule s))))
+  pub left : (out : List ℕ) → runLeaves out s ≡ cond (ltb (length out) (m + tailSize h)) out (sets out 0 (reportBytes h (stepsOf (readSchedule s))))
   left out =
       ap (readingLeaves out) (passed s h m c .accepted)
-      ∙ ap (λ l. cond (ltb (length out) (l + tailLength)) out (sets out 0 (reportBytes h (stepsOf (readSchedule s))))) (passed s h m c .long)
+      ∙ ap (λ l. cond (ltb (length out) (l + tailSize h)) out (sets out 0 (reportBytes h (stepsOf (readSchedule s))))) (passed s h m c .long)
 
   -- the step bytes, and then the tail
   pub whole : (out : List ℕ)
-      → sets (sets out 0 (stepBytes (freshOf h) (stepsOf (readSchedule s)))) m (tailBytes (tailOf (after (freshOf h) (stepsOf (readSchedule s)))))
+      → sets (sets out 0 (stepBytes (freshOf h) (stepsOf (readSchedule s)))) m (tailBytes (formOf (h .kind)) (tailOf (after (freshOf h) (stepsOf (readSchedule s)))))
       ≡ sets out 0 (reportBytes h (stepsOf (readSchedule s)))
   whole out =
       let bytes : List ℕ = stepBytes (freshOf h) (stepsOf (readSchedule s)) in
-      let tail : List ℕ = tailBytes (tailOf (after (freshOf h) (stepsOf (readSchedule s)))) in
+      let tail : List ℕ = tailBytes (formOf (h .kind)) (tailOf (after (freshOf h) (stepsOf (readSchedule s)))) in
       let there : m ≡ 0 + length bytes = omega (arith, bytes-length (freshOf h) (stepsOf (readSchedule s)), passed s h m c .long) in
       ap (λ j. sets (sets out 0 bytes) j tail) there ∙ sym (sets-append out 0 bytes tail)

@@ -19,8 +19,8 @@ use Rattle.rules.specs.Closed.{ClosesAnother}
 use Rattle.rules.specs.Demand.{EveryYes, SomeAbort, Up, AllUndisturbed, Decides, AllCalm}
 use Rattle.passes.specs.Pass.{freshOf, stepBytes}
 use Rattle.marker.specs.Types.{Step, Header, Written, Outcome}
-use Rattle.layout.specs.Tail.{tailLength}
-use Rattle.layout.specs.Read.{countAt}
+use Rattle.form.specs.Form.{formOf, countAt}
+use Rattle.marker.specs.Report.{tailSize}
 use Rattle.marker.specs.Run.{runAnswers, runLeaves}
 
 -- A decision is reported by a step whose byte says commit or abort
@@ -50,26 +50,26 @@ pub record ClosedHold (h : Header) (steps : List Step) (bytes : List ℕ) : Type
       → (closedIn (getD bytes i 0) ≡ true) ↔ ClosesAnother (after (freshOf h) (take i steps)) (getD steps i Step.Start) (after (freshOf h) (take (suc i) steps))
   pub never : (i : ℕ) → i < length bytes → (getD bytes i 0 ≢ 4) × (getD bytes i 0 ≢ 6)
 
--- `tail` are the report's last 59 bytes: their counts, of two bytes, low first, are the due store calls that the rules' definition counts over the schedule
+-- `tail` are the report's last bytes: their counts, of two bytes, low first, are the due store calls that the rules' definition counts over the schedule
 abbrev pub CountsHold : Header → List Step → List ℕ → Type 0
-CountsHold h steps tail = (p : ℕ) → p ≤ places → countAt tail p ≡ callsMade p (freshOf h) steps
+CountsHold h steps tail = (p : ℕ) → p ≤ places → countAt (formOf (h .kind)) tail p ≡ callsMade p (freshOf h) steps
 
 -- what a run that wrote so many bytes left: its steps' bytes, and its tail
 
-abbrev pub stepsLeft : List ℕ → List ℕ → ℕ → List ℕ
-stepsLeft report schedule written = take (written - tailLength) (runLeaves report schedule)
+abbrev pub stepsLeft : Header → List ℕ → List ℕ → ℕ → List ℕ
+stepsLeft h report schedule written = take (written - tailSize h) (runLeaves report schedule)
 
-abbrev pub tailLeft : List ℕ → List ℕ → ℕ → List ℕ
-tailLeft report schedule written = take tailLength (drop (written - tailLength) (runLeaves report schedule))
+abbrev pub tailLeft : Header → List ℕ → List ℕ → ℕ → List ℕ
+tailLeft h report schedule written = take (tailSize h) (drop (written - tailSize h) (runLeaves report schedule))
 
 pub record Marked (report schedule : List ℕ) (written : ℕ) : Type 0 where
   pub header : Header
   pub steps : List Step
   pub accepted : readSchedule schedule ≡ Accepted header steps
-  pub length-written : written ≡ length steps + tailLength
-  pub bytes : BytesHold header steps (stepsLeft report schedule written)
-  pub closed : ClosedHold header steps (stepsLeft report schedule written)
-  pub counts : CountsHold header steps (tailLeft report schedule written)
+  pub length-written : written ≡ length steps + tailSize header
+  pub bytes : BytesHold header steps (stepsLeft header report schedule written)
+  pub closed : ClosedHold header steps (stepsLeft header report schedule written)
+  pub counts : CountsHold header steps (tailLeft header report schedule written)
 
 -- every run that is accepted
 abbrev pub MarkedHolds : Type 0
@@ -79,6 +79,6 @@ MarkedHolds = (report schedule : List ℕ) (written : ℕ) → runAnswers (lengt
 abbrev pub ListMarked : Type 0
 ListMarked =
     (h : Header) (steps : List Step) → headerInRange h ≡ true → AllInRange (h .n) steps → length (scheduleBytes h steps) ≤ longest
-    → (report : List ℕ) → length steps + tailLength ≤ length report
-    → (runAnswers (length report) (scheduleBytes h steps) ≡ Written.Done (length steps + tailLength))
-    × (stepsLeft report (scheduleBytes h steps) (length steps + tailLength) ≡ stepBytes (freshOf h) steps)
+    → (report : List ℕ) → length steps + tailSize h ≤ length report
+    → (runAnswers (length report) (scheduleBytes h steps) ≡ Written.Done (length steps + tailSize h))
+    × (stepsLeft h report (scheduleBytes h steps) (length steps + tailSize h) ≡ stepBytes (freshOf h) steps)

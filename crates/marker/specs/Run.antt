@@ -9,12 +9,11 @@ use lib.Seq.{sets}
 use Rattle.schedule.specs.Schedule.{Reading, Accepted, Refused, readSchedule}
 use Rattle.writer.specs.Writer.{roomAnswer}
 use Rattle.marker.specs.Types.{Written}
-use Rattle.layout.specs.Tail.{tailLength}
-use Rattle.marker.specs.Report.{reportBytes}
+use Rattle.marker.specs.Report.{reportBytes, tailSize}
 
 -- the length written; or the refusal's number with its place, or with the length needed. What each case hands over is `writtenHands`
 abbrev pub readingAnswer : ℕ → Reading → Written
-readingAnswer room (Accepted h steps) = roomAnswer room (length steps + tailLength)
+readingAnswer room (Accepted h steps) = roomAnswer room (length steps + tailSize h)
 readingAnswer room (Refused k place) = Written.Refused k place
 
 -- what the run answers, with a report of `room` bytes
@@ -23,7 +22,7 @@ runAnswers room schedule = readingAnswer room (readSchedule schedule)
 
 -- a refusal leaves the report as it was, success leaves it so beyond what it writes
 abbrev pub readingLeaves : List ℕ → Reading → List ℕ
-readingLeaves report (Accepted h steps) = cond (ltb (length report) (length steps + tailLength)) report (sets report 0 (reportBytes h steps))
+readingLeaves report (Accepted h steps) = cond (ltb (length report) (length steps + tailSize h)) report (sets report 0 (reportBytes h steps))
 readingLeaves report (Refused k place) = report
 
 abbrev pub runLeaves : List ℕ → List ℕ → List ℕ

@@ -1,6 +1,7 @@
 -- The declared types of the layers below that a run speaks of.
 pub use Rattle.store.specs.declared.LogRecord.{LogRecord}
 pub use Rattle.store.specs.declared.LogPair.{LogPair}
+pub use Rattle.participant.specs.declared.Participant.{Participant}
 pub use Rattle.kind.specs.declared.Step.{Step}
 pub use Rattle.schedule.specs.declared.Header.{Header}
 pub use Rattle.schedule.specs.declared.Record.{Record}
@@ -13,3 +14,4 @@ pub use Rattle.rules.specs.declared.Report.{Report}
 pub use Rattle.tail.specs.declared.ParticipantFields.{ParticipantFields}
 pub use Rattle.tail.specs.declared.Tail.{Tail}
 pub use Rattle.passes.specs.declared.Validated.{Validated}
+pub use Rattle.form.specs.declared.Form.{Form}

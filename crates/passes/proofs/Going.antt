@@ -3,38 +3,39 @@
 use mathlib.Core.Path.{_≡_, refl, sym, ap, ap₂, _∙_}
 use mathlib.Core.Bool.{Bool, true}
 use mathlib.Core.List.{List, _∷_}
-use Prim.Native.Nat.{ℕ, _+_, _≤_, _<_}
+use Prim.Native.Nat.{ℕ, suc, _+_, _-_, _*_, _≤_, _<_}
 use native.Mathlib.Omega.{arith}
 use native.Mathlib.Numerals.{add-one}
 use lib.ListN.{length, getD, set, drop, length-set}
 use lib.Seq.{sets}
+use Rattle.number.proofs.Table.{length-tabulate, getD-tabulate}
 use Rattle.store.specs.Log.{places}
 use Rattle.kind.specs.Step.{inRange}
-use Rattle.schedule.specs.Record.{recordStep, headerInRange, longest}
+use Rattle.schedule.specs.Record.{recordStep, headerInRange}
 use Rattle.schedule.specs.Reader.{readerAnswers, stepAt, lengthAt}
 use Rattle.schedule.specs.Schedule.{withStep}
 use Rattle.schedule.proofs.Laws.{header-size}
 use Rattle.schedule.proofs.Records.{read-untested}
 use Rattle.rules.specs.Report.{reportByte, stepByte}
 use Rattle.rules.specs.Step.{step}
-use Rattle.rules.specs.Run.{after}
-use Rattle.state.specs.Fields.{fields, HasPlaces, releaseIn}
+use Rattle.rules.specs.State.{types}
+use Rattle.rules.specs.Run.{after, countLimit}
+use Rattle.state.specs.Fields.{fields, HasPlaces, messageIn, siteIn, countIn, releaseIn}
 use Rattle.state.proofs.Parts.{count-in}
-use Rattle.state.proofs.Filling.{fresh-places, step-places, release-in}
-use Rattle.release.specs.Leads.{Steps, CanCount}
-use Rattle.rules.proofs.Agreement.{replicate-all}
+use Rattle.state.proofs.Filling.{step-places}
+use Rattle.call.specs.Steps.{Steps, CanCount}
 use Rattle.rules.proofs.Causes.{cause}
-use Rattle.rules.proofs.Counts.{one-call-more}
+use Rattle.rules.proofs.Counts.{calls-by-bytes}
 use Rattle.rules.proofs.Room.{caused-room}
 use Rattle.passes.specs.Types.{Step, Header, Record, Before, Read, Validated, Store, Release, Outcome}
-use Rattle.passes.specs.Pass.{readingFrom, validatedAfter, validated, stepsOf, freshOf, stepBytes}
+use Rattle.passes.specs.Pass.{readingFrom, validatedAfter, stepsOf, stepBytes, Ready, Leaves}
 use Rattle.passes.proofs.Reading.{First, read-first, read-refused, none-left, count-more, one-more, step-first}
 
--- before step i, whose record begins at `at`: `l` are the numbers of the release, beside its store
-pub record Going (s : List ℕ) (h : Header) (start count : ℕ) (out₀ out : List ℕ) (at i : ℕ) (l : List ℕ) (store : Store) : Type 0 where
+-- before step i, whose record begins at `at`, from a release r₀ on: `l` are the numbers of the release then, beside its store. Three times a count
+-- and the bytes left stay below three times the limit, since a counted call has a record of three bytes
+pub record Going (s : List ℕ) (h : Header) (start count : ℕ) (r₀ : Release) (out₀ out : List ℕ) (at i : ℕ) (l : List ℕ) (store : Store) : Type 0 where
   pub within : at ≤ length s
   pub few : i ≤ at
-  pub short : length s ≤ longest
   pub same : length out ≡ length out₀
   pub room : count ≤ length out₀
   pub header : headerInRange h ≡ true
@@ -43,39 +44,38 @@ pub record Going (s : List ℕ) (h : Header) (start count : ℕ) (out₀ out : L
   pub stored : store ≡ release .store
   pub has-places : HasPlaces release
   pub same-n : release .n ≡ h .n
-  pub calls : (p : ℕ) → getD (release .calls) p 0 ≤ i
+  pub calls : (p : ℕ) → p < suc places → 3 * getD (release .calls) p 0 + (length s - at) < 3 * countLimit
   pub left : validatedAfter i (readingFrom s h at) ≡ Validated.Steps h count
-  pub ends : after release (stepsOf (readingFrom s h at)) ≡ after (freshOf h) (stepsOf (readingFrom s h start))
-  pub report : sets out i (stepBytes release (stepsOf (readingFrom s h at))) ≡ sets out₀ 0 (stepBytes (freshOf h) (stepsOf (readingFrom s h start)))
+  pub ends : after release (stepsOf (readingFrom s h at)) ≡ after r₀ (stepsOf (readingFrom s h start))
+  pub report : sets out i (stepBytes release (stepsOf (readingFrom s h at))) ≡ sets out₀ 0 (stepBytes r₀ (stepsOf (readingFrom s h start)))
 
-pub set-out : (s : List ℕ) (h : Header) (start count : ℕ) (out : List ℕ) → start ≤ length s → length s ≤ longest → count ≤ length out
-    → headerInRange h ≡ true → validated (readingFrom s h start) ≡ Validated.Steps h count → Going s h start count out out start 0 (fields (freshOf h)) (freshOf h .store)
-set-out s h start count out within short room header left =
+pub set-out : (s : List ℕ) (start : ℕ) (h : Header) (count : ℕ) (out l : List ℕ) (store : Store) → Ready s start h count (length out) l store
+    → Going s h start count (releaseIn l store) out out start 0 l store
+set-out s start h count out l store g =
     record {
-      within = within;
+      within = g .within;
       few = omega arith;
-      short = short;
       same = refl;
-      room = room;
-      header = header;
-      release = freshOf h;
-      numbers = refl;
+      room = g .enough;
+      header = g .header;
+      release = releaseIn l store;
+      numbers = g .numbers;
       stored = refl;
-      has-places = fresh-places (h .n) (h .votes);
-      same-n = refl;
-      calls = λ p. replicate-all (λ k. k ≤ 0) 9 p 0 (omega arith);
-      left = left;
+      has-places = record { sites = length-tabulate places (siteIn l); messages = length-tabulate types (messageIn l); calls = length-tabulate (suc places) (countIn l) };
+      same-n = g .same-n;
+      calls = λ p h. rw (getD-tabulate (suc places) (countIn l) p 0 h) (g .countable p h);
+      left = g .steps;
       ends = refl;
       report = refl;
     }
 
-module _ {s : List ℕ} {h : Header} {start count : ℕ} {out₀ out : List ℕ} {at i : ℕ} {l : List ℕ} {store : Store} (g : Going s h start count out₀ out at i l store) (some : at < length s) where
+module _ {s : List ℕ} {h : Header} {start count : ℕ} {r₀ : Release} {out₀ out : List ℕ} {at i : ℕ} {l : List ℕ} {store : Store} (g : Going s h start count r₀ out₀ out at i l store) (some : at < length s) where
   -- a step may be taken: the release has room for n, and every count has room for one call more
   pub small : h .n ≤ places
   small = omega (arith, header-size h (g .header) .1)
 
   pub countable : CanCount l
-  countable p q = rw (g .numbers, count-in (g .release) (g .has-places) p q) (omega (arith, g .calls p, g .few, g .within, g .short))
+  countable p q = rw (g .numbers, count-in (g .release) (g .has-places) p q) (omega (arith, g .calls p q))
 
   module _ (x : Record) (size : ℕ) (e : readerAnswers (drop at s) (Before.Header h) ≡ Read.Record x size) where
     first : First s h at x size
@@ -98,7 +98,7 @@ module _ {s : List ℕ} {h : Header} {start count : ℕ} {out₀ out : List ℕ}
 
     -- one turn
     pub go-on : (o : Outcome) (b : Bool) (k : List ℕ) (t : Store) → Steps (h .n) (λ r. step r (recordStep x)) l store o b k t
-        → Going s h start count out₀ (set out i (reportByte o b)) (at + size) (i + 1) k t
+        → Going s h start count r₀ out₀ (set out i (reportByte o b)) (at + size) (i + 1) k t
     go-on o b k t leads =
         let r : Release = g .release in
         let led = leads r (g .has-places) (g .same-n) (g .numbers) (g .stored) in
@@ -108,7 +108,6 @@ module _ {s : List ℕ} {h : Header} {start count : ℕ} {out₀ out : List ℕ}
         record {
           within = first .within;
           few = omega (arith, g .few, first .some);
-          short = g .short;
           same = length-set out i (reportByte o b) ∙ g .same;
           room = g .room;
           header = g .header;
@@ -117,7 +116,7 @@ module _ {s : List ℕ} {h : Header} {start count : ℕ} {out₀ out : List ℕ}
           stored = led .2;
           has-places = step-places r (recordStep x) (g .has-places);
           same-n = caused-room r (cause r (recordStep x)) .same-n ∙ g .same-n;
-          calls = λ p. omega (arith, one-call-more r (recordStep x) p, g .calls p);
+          calls = λ p q. omega (arith, calls-by-bytes r (recordStep x) p, g .calls p q, first .size, first .within);
           left = sym (count-more i (recordStep x) (readingFrom s h (at + size))) ∙ here;
           ends = ap (after r) (sym steps) ∙ g .ends;
           report =
@@ -151,10 +150,14 @@ module _ {s : List ℕ} {h : Header} {start count : ℕ} {out₀ out : List ℕ}
       go (Read.Refused k p) e = absurd (no-refusal k p e)
 
 -- at the end
-pub arrived : {s : List ℕ} {h : Header} {start count : ℕ} {out₀ out : List ℕ} {at i : ℕ} {l : List ℕ} {store : Store} → Going s h start count out₀ out at i l store → length s ≤ at
-    → (releaseIn l store ≡ after (freshOf h) (stepsOf (readingFrom s h start))) × (out ≡ sets out₀ 0 (stepBytes (freshOf h) (stepsOf (readingFrom s h start))))
-arrived {s} {h} {start} {count} {out₀} {out} {at} {i} {l} {store} g end =
+pub arrived : {s : List ℕ} {h : Header} {start count : ℕ} {r₀ : Release} {out₀ out : List ℕ} {at i : ℕ} {l : List ℕ} {store : Store} → Going s h start count r₀ out₀ out at i l store
+    → length s ≤ at → Leaves r₀ (stepsOf (readingFrom s h start)) out₀ store l out
+arrived {s} {h} {start} {count} {r₀} {out₀} {out} {at} {i} {l} {store} g end =
     let e = none-left s h at end in
     let r : Release = g .release in
-    let back : releaseIn l store ≡ r = ap₂ releaseIn (g .numbers) (g .stored) ∙ release-in r (g .has-places) (λ p. omega (arith, g .calls p, g .few, g .within, g .short)) in
-    (back ∙ sym (ap (λ x. after r (stepsOf x)) e) ∙ g .ends, sym (ap (λ x. sets out i (stepBytes r (stepsOf x))) e) ∙ g .report)
+    let ends : r ≡ after r₀ (stepsOf (readingFrom s h start)) = sym (ap (λ x. after r (stepsOf x)) e) ∙ g .ends in
+    record {
+      store = g .stored ∙ ap (λ (t : Release). t .store) ends;
+      numbers = g .numbers ∙ ap fields ends;
+      bytes = sym (ap (λ x. sets out i (stepBytes r (stepsOf x))) e) ∙ g .report;
+    }

@@ -5,10 +5,12 @@ use mathlib.Core.List.{List, [], _∷_}
 use Prim.Native.Nat.{ℕ, suc, _+_, _≤_}
 use native.Mathlib.Omega.{arith}
 use lib.ListN.{length, drop}
+use lib.Seq.{drop-at}
 use Rattle.kind.specs.Step.{AllInRange}
-use Rattle.schedule.specs.Record.{headerInRange, longest}
+use Rattle.schedule.specs.Record.{headerInRange, headerRecord, recordLength, recordBytes, longest}
 use Rattle.schedule.specs.Schedule.{Reading, Accepted, Refused, stepsFrom, readSchedule, stepsBytes, scheduleBytes}
-use Rattle.schedule.proofs.Reading.{SaysWhole, read-says, after-header, steps-few}
+use Rattle.schedule.proofs.Reading.{SaysWhole, read-says, after-header, header-more, steps-few}
+use Rattle.schedule.proofs.Records.{record-length}
 use Rattle.rules.specs.Step.{step}
 use Rattle.passes.specs.Types.{Step, Header, Release, Validated}
 use Rattle.passes.specs.Pass.{validated, readingFrom, stepsOf, stepBytes}
@@ -26,9 +28,9 @@ pub record Passed (s : List ℕ) (h : Header) (count : ℕ) : Type 0 where
   pub ranged : AllInRange (h .n) (stepsOf (readSchedule s))
   pub short : length s ≤ longest
   pub few : count ≤ length s
-  -- the steps begin after the header's three bytes
-  pub three : 3 ≤ length s
-  pub after-three : readingFrom s h 3 ≡ readSchedule s
+  -- the steps begin after the header
+  pub begins : recordLength (headerRecord h) ≤ length s
+  pub after-header : readingFrom s h (recordLength (headerRecord h)) ≡ readSchedule s
 
 header-same : (h g : Header) (a b : ℕ) → Validated.Steps h a ≡ Validated.Steps g b → h ≡ g
 header-same h g a b e = cc
@@ -36,10 +38,11 @@ header-same h g a b e = cc
 pub passed : (s : List ℕ) (h : Header) (count : ℕ) → validated (readSchedule s) ≡ Validated.Steps h count → Passed s h count
 passed s h count c = go (readSchedule s) refl c
   where
-    front : (g : Header) (steps : List Step) → headerInRange g ≡ true → scheduleBytes g steps ≡ s → length s ≤ longest → readingFrom s g 3 ≡ readSchedule s
+    front : (g : Header) (steps : List Step) → headerInRange g ≡ true → scheduleBytes g steps ≡ s → length s ≤ longest → readingFrom s g (recordLength (headerRecord g)) ≡ readSchedule s
     front g steps q e fits =
-        let rest : drop 3 s ≡ stepsBytes steps = ap (drop 3) (sym e) in
-        ap (λ l. stepsFrom g 3 l 0) rest
+        let n : ℕ = recordLength (headerRecord g) in
+        let rest : drop n s ≡ stepsBytes steps = ap (drop n) (sym e) ∙ drop-at (recordBytes (headerRecord g)) (stepsBytes steps) n (record-length (headerRecord g)) in
+        ap (λ l. stepsFrom g n l 0) rest
         ∙ sym (after-header g q (stepsBytes steps) (subst (λ l. length l ≤ longest) (sym e) fits))
         ∙ ap readSchedule e
 
@@ -55,8 +58,8 @@ passed s h count c = go (readSchedule s) refl c
           header = y .1;
           ranged = subst (AllInRange (g .n)) (sym steps-same) (y .2);
           short = y .3;
-          few = omega (arith, long, steps-few steps, ap length (y .0));
-          three = omega (arith, ap length (y .0));
-          after-three = front g steps (y .1) (y .0) (y .3);
+          few = omega (arith, long, steps-few steps, ap length (y .0), header-more g (stepsBytes steps));
+          begins = omega (arith, ap length (y .0), header-more g (stepsBytes steps));
+          after-header = front g steps (y .1) (y .0) (y .3);
         })
     go (Refused k p) e c = let z : _≡_ {A = ℕ} 0 1 = cc in absurd (omega arith)

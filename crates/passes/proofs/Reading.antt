@@ -6,8 +6,9 @@ use Prim.Native.Nat.{ℕ, suc, _+_, _-_, _≤_, _<_}
 use native.Mathlib.Omega.{arith}
 use lib.ListN.{length, take, drop, length-drop, drop-of-length-le}
 use lib.Seq.{take-all, drop-drop}
-use Rattle.kind.specs.Step.{inRange}
-use Rattle.schedule.specs.Record.{recordStep}
+use Rattle.kind.specs.Kind.{bodyLength}
+use Rattle.kind.specs.Step.{stepKind, inRange}
+use Rattle.schedule.specs.Record.{recordStep, recordLength}
 use Rattle.schedule.specs.Reader.{readerAnswers}
 use Rattle.schedule.specs.Schedule.{Reading, Accepted, Refused, withStep, stepsFrom}
 use Rattle.schedule.proofs.Records.{front-length, read-yielded, record-step}
@@ -28,6 +29,8 @@ header-read s r l e =
 -- a record that is read: it stands within the schedule, its step is in range, and it comes first
 pub record First (s : List ℕ) (h : Header) (at : ℕ) (r : Record) (l : ℕ) : Type 0 where
   pub some : 1 ≤ l
+  -- as long as the record of its step
+  pub size : l ≡ 1 + bodyLength (stepKind (recordStep r))
   pub within : at + l ≤ length s
   pub ranged : inRange (h .n) (recordStep r) ≡ true
   pub first : readingFrom s h at ≡ withStep (recordStep r) (readingFrom s h (at + l))
@@ -44,6 +47,7 @@ module _ (s : List ℕ) (h : Header) (at : ℕ) (some : at < length s) where
       let there : rest ≡ drop (at + l) s = drop-drop l at s in
       record {
         some = omega (arith, y .size);
+        size = y .size ∙ ap (λ (x : Record). recordLength x) (sym (record-step h r (y .follows) .0));
         within = omega (arith, y .size, long, length-drop at s, length-drop l (drop at s), some-left);
         ranged = record-step h r (y .follows) .1;
         first =

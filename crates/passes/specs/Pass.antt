@@ -1,14 +1,19 @@
 -- The two passes over a schedule. The first answers its header and how many steps there are, or the first refusal from the left; the second
 -- gives a byte a step and the release that the steps leave. Assumes nothing.
+use mathlib.Core.Path.{_≡_}
+use mathlib.Core.Bool.{true}
 use mathlib.Core.List.{List, [], map}
-use Prim.Native.Nat.{ℕ, _+_}
+use Prim.Native.Nat.{ℕ, suc, _+_, _-_, _*_, _≤_, _<_}
 use lib.ListN.{length, drop}
+use lib.Seq.{sets}
 use Rattle.store.specs.Log.{places}
+use Rattle.schedule.specs.Record.{headerInRange}
 use Rattle.schedule.specs.Schedule.{Reading, Accepted, Refused, stepsFrom}
 use Rattle.rules.specs.State.{fresh}
 use Rattle.rules.specs.Report.{stepByte}
-use Rattle.rules.specs.Run.{reports}
-use Rattle.passes.specs.Types.{Step, Header, Read, Release, Validated}
+use Rattle.rules.specs.Run.{reports, after, countLimit}
+use Rattle.state.specs.Fields.{fields, nIn, countIn, releaseIn}
+use Rattle.passes.specs.Types.{Step, Header, Read, Store, Release, Validated}
 
 -- the first pass, beside the steps counted before
 abbrev pub validatedAfter : ℕ → Reading → Validated
@@ -38,3 +43,20 @@ freshOf h = fresh places (h .n) (h .votes)
 
 abbrev pub stepBytes : Release → List Step → List ℕ
 stepBytes r steps = map stepByte (reports r steps)
+
+-- What the second pass starts from: `count` steps from a place on, room for a byte of each, and numbers and a store that represent a release with the
+-- header's n. A counted call has a record of three bytes: every count has room for a call in each three of the bytes left
+pub record Ready (s : List ℕ) (start : ℕ) (h : Header) (count room : ℕ) (l : List ℕ) (store : Store) : Type 0 where
+  pub within : start ≤ length s
+  pub header : headerInRange h ≡ true
+  pub steps : validated (readingFrom s h start) ≡ Validated.Steps h count
+  pub enough : count ≤ room
+  pub numbers : l ≡ fields (releaseIn l store)
+  pub same-n : nIn l ≡ h .n
+  pub countable : (p : ℕ) → p < suc places → 3 * countIn l p + (length s - start) < 3 * countLimit
+
+-- What it leaves of a release and a report: the store and the numbers of the release after the steps, and a byte for each step in the report
+pub record Leaves (r : Release) (steps : List Step) (before : List ℕ) (s : Store) (l report : List ℕ) : Type 0 where
+  pub store : s ≡ after r steps .store
+  pub numbers : l ≡ fields (after r steps)
+  pub bytes : report ≡ sets before 0 (stepBytes r steps)

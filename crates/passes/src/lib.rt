@@ -1,10 +1,11 @@
 // The two passes over a schedule: the first validates from the left and counts, so that a refusal touches nothing; the second steps and writes a
 // byte a step.
+use effect::outcome::report_byte;
 use kind::Kind;
 use number::EMPTY_OR_TOO_LONG;
-use release::outcome::report_byte;
-use release::step::step;
-use rules::Release;
+use release::makes_call;
+use release::with_call;
+use release::without_call;
 use schedule::Header;
 use schedule::LONGEST;
 use schedule::reader::Before;
@@ -12,27 +13,22 @@ use schedule::reader::Read;
 use schedule::reader::length_at;
 use schedule::reader::read_record;
 use schedule::reader::step_at;
-use state::fresh;
-use state::release;
+use state::FIELDS;
 use store::Store;
 ghost use mathlib.Core.Path.{_≡_};
 ghost use Prim.Native.Nat.{_≤_};
 ghost use lib.ListN.{length};
-ghost use lib.Seq.{sets};
-ghost use Rattle.rules.specs.Run.{after};
-ghost use Rattle.schedule.specs.Record.{longest};
+ghost use Rattle.schedule.specs.Record.{headerRecord, recordLength, longest};
+ghost use Rattle.state.specs.Fields.{fields, releaseIn};
 ghost use Rattle.schedule.specs.Schedule.{readSchedule};
 ghost use Rattle.passes.specs.declared.Validated.{Validated};
-ghost use Rattle.passes.specs.Pass.{validated, readingFrom, refusedAt, stepsOf, freshOf, stepBytes};
+ghost use Rattle.passes.specs.Pass.{validated, readingFrom, refusedAt, stepsOf, freshOf, Ready, Leaves};
 
 // A schedule's header and how many steps it has; or a refusal's number and place.
 pub enum Validated {
     Steps(Header, usize),
     Refused(u32, usize),
 }
-
-// Where the steps begin: after the header's kind and body.
-const FIRST_STEP: usize = 1 + Kind::TWO_NUMBERS;
 
 // The reader's refusal of the part of the schedule from a place on: the place is the record's first byte.
 fn refused_at(place: usize, found: Read) -> Validated
@@ -76,27 +72,69 @@ pub fn validate(schedule: &[u8]) -> Validated
     count_steps(schedule, start, r.header())
 }
 
-// The second pass: takes the steps of a schedule that was validated, writes a byte for each, and answers the release that they leave. What the
-// first pass tested is not tested again. The release is kept as its store and as numbers, which each step changes in place.
-pub fn run_steps(schedule: &[u8], header: Header, count: usize, report: &mut [u8]) -> Release
-    requires { ⌜ (validated (readSchedule (now schedule)) ≡ Validated.Steps header count) × (count ≤ length (now report)) ⌝ }
-    ensures { λ r. ⌜ (r ≡ after (freshOf header) (stepsOf (readSchedule (now (schedule .entry)))))
-        × (now (report .exit) ≡ sets (now (report .entry)) 0 (stepBytes (freshOf header) (stepsOf (readSchedule (now (schedule .entry)))))) ⌝ }
+// Where the steps of a schedule begin: after the header's kind and body.
+fn first_step(header: Header) -> usize
+    ensures { λ p. ⌜ p ≡ recordLength (headerRecord header) ⌝ }
 {
-    let n = header.n;
-    let mut fields = fresh(n, header.votes);
-    let mut store = Store::empty();
-    let mut at = FIRST_STEP;
+    let kind = header.kind;
+    1 + Kind::body(kind)
+}
+
+// The second pass: takes the steps that stand from a place on and were validated, and writes a byte for each. What the first pass tested is not
+// tested again. The release that they start from is lent as its numbers, which each step changes in place, and given as its store, which goes into
+// and out of every step that makes a store call, and comes back.
+pub fn run_steps(
+    schedule: &[u8],
+    start: usize,
+    header: Header,
+    count: usize,
+    numbers: &mut [u32; FIELDS],
+    store: Store,
+    report: &mut [u8],
+) -> Store
+    requires { ⌜ Ready (now schedule) start header count (length (now report)) (now numbers) store ⌝ }
+    ensures { λ s. ⌜ Leaves (releaseIn (now (numbers .entry)) store) (stepsOf (readingFrom (now (schedule .entry)) header start)) (now (report .entry))
+        s (now (numbers .exit)) (now (report .exit)) ⌝ }
+{
+    let mut left = store;
+    let mut at = start;
     let mut i: usize = 0;
     while at < schedule.len() {
         let s = step_at(&schedule[at..]);
         let size = length_at(&schedule[at..]);
-        let stepped = step(&mut fields, store, n, s);
-        let outcome = stepped.outcome;
-        report[i] = report_byte(outcome, stepped.closed);
-        store = stepped.store;
+        if makes_call(s) {
+            let stepped = with_call(numbers, left, header.n, s);
+            let outcome = stepped.outcome;
+            report[i] = report_byte(outcome, stepped.closed);
+            left = stepped.store;
+        } else {
+            report[i] = report_byte(without_call(numbers, header.n, s), false);
+        }
         at = at + size;
         i = i + 1;
     }
-    release(&fields, store)
+    left
+}
+
+// The second pass of a schedule that was validated, from the fresh release of its header, whose numbers are lent.
+pub fn run_fresh(
+    schedule: &[u8],
+    header: Header,
+    count: usize,
+    numbers: &mut [u32; FIELDS],
+    report: &mut [u8],
+) -> Store
+    requires { ⌜ (validated (readSchedule (now schedule)) ≡ Validated.Steps header count) × (count ≤ length (now report)) × (now numbers ≡ fields (freshOf header)) ⌝ }
+    ensures { λ s. ⌜ Leaves (freshOf header) (stepsOf (readSchedule (now (schedule .entry)))) (now (report .entry)) s (now (numbers .exit)) (now (report .exit)) ⌝ }
+{
+    let start = first_step(header);
+    run_steps(
+        schedule,
+        start,
+        header,
+        count,
+        numbers,
+        Store::empty(),
+        report,
+    )
 }

@@ -1,2 +1,2 @@
 pub mod Types
-pub mod Leads
+pub mod Call

@@ -2,13 +2,15 @@
 use mathlib.Core.Path.{_≡_, refl, sym, _∙_}
 use mathlib.Core.List.{[], _∷_}
 use mathlib.Core.Bool.{Bool, true, false, cond, _&&_}
-use Prim.Native.Nat.{ℕ, zero, suc, _+_, _≤_, _<_}
+use Prim.Native.Nat.{ℕ, zero, suc, _+_, _*_, _≤_, _<_}
 use native.Mathlib.Omega.{arith}
 use native.Mathlib.Decide.{ℕ-discrete, decLt}
 use lib.Dec.{eqb}
 use lib.ListN.{length, getD, set, List·getD-eq-default}
 use lib.Seq.{getD-set-same, getD-set-other}
 use borrow.Author.Tests.{eq-eqb, ne-eqb}
+use Rattle.kind.specs.Kind.{bodyLength}
+use Rattle.kind.specs.Step.{stepKind}
 use Rattle.coordinator.specs.Coordinator
 use Rattle.rules.specs.Report.{moves}
 use Rattle.rules.specs.Step.{called, drop, moved, participantTo, coordinatorTo, coordinatorGoes, receive, step}
@@ -100,4 +102,27 @@ one-call-more r s p = go (decLt p (length (r .calls)))
 
     go : Dec (p < length (r .calls)) → getD (step r s .next .calls) p 0 ≤ getD (r .calls) p 0 + 1
     go (yes l) = omega (arith, caused-counts r p (cause r s) l .added, at-most (isStoreCallOf p s && moves (step r s .outcome)))
+    go (no ne) = rw (List·getD-eq-default (step r s .next .calls) 0 {n = p} (rw (caused-room r (cause r s) .calls) (omega arith))) (omega arith)
+
+-- a counted call has a record of three bytes: three times a count grows by no more than the bytes of the steps
+pub calls-by-bytes : (r : Release) (s : Step) (p : ℕ) → 3 * getD (step r s .next .calls) p 0 ≤ 3 * getD (r .calls) p 0 + (1 + bodyLength (stepKind s))
+calls-by-bytes r s p = go (decLt p (length (r .calls)))
+  where
+    three : (c : Bool) → 3 * cond c 1 0 ≤ 3
+    three true = omega arith
+    three false = omega arith
+
+    by-bytes : (s : Step) (b : Bool) → 3 * cond (isStoreCallOf p s && b) 1 0 ≤ 1 + bodyLength (stepKind s)
+    by-bytes Start b = omega arith
+    by-bytes (Deliver m q) b = omega arith
+    by-bytes (Copy m q) b = omega arith
+    by-bytes (Lose m q) b = omega arith
+    by-bytes (Step.Call q j) b = three (eqb q p && b)
+    by-bytes (Step.CallLost q j) b = three (eqb q p && b)
+    by-bytes (Timeout q) b = omega arith
+    by-bytes (Crash q) b = omega arith
+    by-bytes (Restart q) b = omega arith
+
+    go : Dec (p < length (r .calls)) → 3 * getD (step r s .next .calls) p 0 ≤ 3 * getD (r .calls) p 0 + (1 + bodyLength (stepKind s))
+    go (yes l) = omega (arith, caused-counts r p (cause r s) l .added, by-bytes s (moves (step r s .outcome)))
     go (no ne) = rw (List·getD-eq-default (step r s .next .calls) 0 {n = p} (rw (caused-room r (cause r s) .calls) (omega arith))) (omega arith)

@@ -24,3 +24,4 @@ pub mod Idle
 pub mod Closed
 pub mod Bytes
 pub mod Decision
+pub mod Places

@@ -6,5 +6,6 @@ pub mod Due
 pub mod Run
 pub mod Demand
 pub mod Range
+pub mod Places
 pub mod Closed
 pub mod Decision

@@ -9,7 +9,7 @@ use lib.Dec.{eqb}
 use lib.ListN.{length, replicate}
 use Rattle.number.specs.Refusal.{Handed, hands, accepted, emptyOrTooLong, unknownKind, bodyCutShort, headerMisplaced, outOfRange}
 use Rattle.kind.specs.Step.{AllInRange}
-use Rattle.schedule.specs.Types.{Step, Header, Before}
+use Rattle.schedule.specs.Types.{Kind, Step, Header, Before}
 use Rattle.schedule.specs.Reader.{readerAnswers, readHands}
 use Rattle.schedule.specs.Schedule.{Reading, Accepted, Refused, stepsFrom, readSchedule, stepsBytes, scheduleBytes}
 use Rattle.schedule.specs.RoundTrip.{too-long}
@@ -84,7 +84,7 @@ starts-in-range n zero = tt
 starts-in-range n (suc m) = (refl, starts-in-range n m)
 
 abbrev oneParticipant : Header
-oneParticipant = record { n = 1; votes = 1 }
+oneParticipant = record { kind = Kind.Header; n = 1; votes = 1 }
 
 longest-read : readSchedule (scheduleBytes oneParticipant (replicate 32765 Step.Start)) ≡ Accepted oneParticipant (replicate 32765 Step.Start)
 longest-read =
@@ -121,5 +121,5 @@ reads =
     ∷ read (1 ∷ 1 ∷ 1 ∷ []) 9 0 headerMisplaced 0
     ∷ []
 
-reads-hold : allHold (λ c. same (readHands (readerAnswers (c .bytes) (Before.Header (record { n = c .n; votes = c .votes })))) (c .handed)) reads ≡ true
+reads-hold : allHold (λ c. same (readHands (readerAnswers (c .bytes) (Before.Header (record { kind = Kind.Header; n = c .n; votes = c .votes })))) (c .handed)) reads ≡ true
 reads-hold = refl

@@ -1,30 +1,50 @@
 -- What tests of ranges tell: the numbers of a record in range are bytes. Assumes nothing.
-use mathlib.Core.Path.{_≡_}
+use mathlib.Core.Path.{_≡_, refl}
 use mathlib.Core.Bool.{Bool, true, false, cond}
 use Prim.Native.Nat.{ℕ, _≤_, _<_}
 use native.Mathlib.Omega.{arith}
 use lib.Pow.{pow-mono}
 use borrow.Author.Tests.{leb-true}
-use Rattle.number.proofs.Laws.{and-left, and-right}
+use Rattle.number.proofs.Laws.{and-left, and-right, and-true}
 use Rattle.mask.specs.Mask.{within, full}
 use Rattle.store.specs.Log.{places}
-use Rattle.kind.specs.Kind.{kindNumber, isHeader}
+use Rattle.kind.specs.Kind.{kindNumber, isHeader, room}
 use Rattle.kind.specs.Step.{numberInRange, numbersInRange}
-use Rattle.kind.proofs.Numbers.{between, numbers-bounds}
-use Rattle.schedule.specs.Types.{Header, Record}
-use Rattle.schedule.specs.Record.{headerInRange, recordHeader, recordInRange}
+use Rattle.kind.proofs.Numbers.{between, numbers-bounds, room-most, no-room}
+use Rattle.schedule.specs.Types.{Kind, Header, Record, Before}
+use Rattle.schedule.specs.Record.{headerInRange, headerRecord, recordHeader, recordInRange}
+use Rattle.schedule.specs.RoundTrip.{mayFollow}
+
+pub header-room : (h : Header) → headerInRange h ≡ true → (1 ≤ h .n) × (h .n ≤ room (h .kind))
+header-room h q = between 1 (h .n) (room (h .kind)) (and-left (numberInRange 1 (h .n) (room (h .kind))) _ q)
 
 pub header-size : (h : Header) → headerInRange h ≡ true → (1 ≤ h .n) × (h .n ≤ places)
-header-size h q = between 1 (h .n) places (and-left (numberInRange 1 (h .n) places) _ q)
+header-size h q = let x = header-room h q in (x .0, omega (arith, room-most (h .kind)))
+
+-- a header in range has a header's kind
+pub header-is : (h : Header) → headerInRange h ≡ true → isHeader (h .kind) ≡ true
+header-is h q = go (isHeader (h .kind)) refl
+  where
+    go : (b : Bool) → isHeader (h .kind) ≡ b → b ≡ true
+    go true e = refl
+    go false e = let x = header-room h q in absurd (omega (arith, no-room (h .kind) e))
+
+-- so it may come first
+pub header-record : (n : ℕ) (h : Header) → headerInRange h ≡ true → recordInRange n (headerRecord h) ≡ true
+header-record n h q = rw (header-is h q) q
+
+pub header-follows : (h : Header) → headerInRange h ≡ true → mayFollow Before.Nothing (headerRecord h) ≡ true
+header-follows h q = and-true _ _ (header-is h q) (header-record 0 h q)
 
 pub header-votes : (h : Header) → headerInRange h ≡ true → within (h .n) (h .votes) ≡ true
-header-votes h q = and-right (numberInRange 1 (h .n) places) _ q
+header-votes h q = and-right (numberInRange 1 (h .n) (room (h .kind))) _ q
 
 header-bytes : (h : Header) → headerInRange h ≡ true → (h .n < 256) × (h .votes < 256)
 header-bytes h q =
-    let x = header-size h q in
+    let x = header-room h q in
     let y = leb-true (h .votes) (full (h .n)) (header-votes h q) in
-    (omega arith, omega (arith, pow-mono {i = h .n} {j = places} (x .1)))
+    let z : h .n ≤ room Kind.Header = omega (arith, room-most (h .kind)) in
+    (omega arith, omega (arith, pow-mono {i = h .n} {j = room Kind.Header} z))
 
 pub record-bytes : (n : ℕ) (r : Record) → n ≤ places → recordInRange n r ≡ true → (r .first < 256) × (r .second < 256)
 record-bytes n r small q = go (isHeader (r .kind)) q

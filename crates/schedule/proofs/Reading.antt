@@ -7,17 +7,19 @@ use native.Mathlib.Omega.{arith}
 use native.Mathlib.Nat.{add-zero}
 use lib.Dec.{eqb, leb, ltb, lit≤}
 use lib.ListN.{length, getD, take, drop}
+use lib.Seq.{drop-at}
 use borrow.Author.Tests.{ltb-true, ltb-false, le-ltb}
 use Rattle.number.specs.Refusal.{emptyOrTooLong, outOfRange}
 use Rattle.number.proofs.Laws.{and-left, and-right}
 use Rattle.kind.specs.Kind.{kindOf, isKind, bodyLength, isHeader}
 use Rattle.kind.specs.Step.{AllInRange}
-use Rattle.kind.proofs.Numbers.{kind-decoded, header-kind}
+use Rattle.kind.proofs.Numbers.{kind-decoded}
 use Rattle.schedule.specs.Types.{Kind, Step, Header, Record, Before, Read}
 use Rattle.schedule.specs.Record.{headerRecord, recordHeader, stepRecord, recordStep, headerInRange, recordLength, recordBytes, longest}
 use Rattle.schedule.specs.Reader.{bodyNumber, isPlaced, inRangeAfter, kindAnswer, readerAnswers}
 use Rattle.schedule.specs.Schedule.{Reading, Accepted, Refused, withStep, andThen, stepsFrom, stepsAfter, readSchedule, stepsBytes, scheduleBytes}
 use Rattle.schedule.specs.RoundTrip.{mayFollow, RefusalOf, too-long, at-header, at-step}
+use Rattle.schedule.proofs.Laws.{header-follows}
 use Rattle.schedule.proofs.Records.{record-length, front-length, read-front, read-yielded, step-follows, record-step}
 
 -- Reading on
@@ -63,11 +65,12 @@ first-steps h g (s ∷ ss) q place rest =
 -- A header, and steps after it
 
 pub after-header : (h : Header) → headerInRange h ≡ true → (rest : List ℕ) → length (recordBytes (headerRecord h) ++ rest) ≤ longest
-    → readSchedule (recordBytes (headerRecord h) ++ rest) ≡ stepsFrom h 3 rest 0
+    → readSchedule (recordBytes (headerRecord h) ++ rest) ≡ stepsFrom h (recordLength (headerRecord h)) rest 0
 after-header h g rest fits =
     simp (
       le-ltb longest (length (recordBytes (headerRecord h) ++ rest)) fits,
-      read-front Before.Nothing (headerRecord h) rest g,
+      read-front Before.Nothing (headerRecord h) rest (header-follows h g),
+      drop-at (recordBytes (headerRecord h)) rest (recordLength (headerRecord h)) (record-length (headerRecord h)),
     )
 
 pub all-read : (h : Header) (place : ℕ) (steps : List Step) → withSteps steps (stepsFrom h place [] 0) ≡ Accepted h steps
@@ -182,17 +185,18 @@ SaysWhole bytes (Accepted h steps) =
     (scheduleBytes h steps ≡ bytes) × (headerInRange h ≡ true) × AllInRange (h .n) steps × (length bytes ≤ longest)
 SaysWhole bytes (Refused k at) = RefusalOf bytes k at
 
-pub three-more : (n : ℕ) → 3 + n ≡ suc (suc (suc n))
-three-more n = omega arith
+pub header-more : (h : Header) (rest : List ℕ) → recordLength (headerRecord h) + length rest ≡ length (recordBytes (headerRecord h) ++ rest)
+header-more h rest = sym (front-length (headerRecord h) rest)
 
-says-whole : (h : Header) (rest : List ℕ) → headerInRange h ≡ true → length (recordBytes (headerRecord h) ++ rest) ≤ longest → (x : Reading) → Says h 3 rest x
+says-whole : (h : Header) (rest : List ℕ) → headerInRange h ≡ true → length (recordBytes (headerRecord h) ++ rest) ≤ longest → (x : Reading)
+    → Says h (recordLength (headerRecord h)) rest x
     → SaysWhole (recordBytes (headerRecord h) ++ rest) x
 says-whole h rest g fits (Accepted h′ steps) y =
     rw (y .0) (ap (λ l. recordBytes (headerRecord h) ++ l) (y .2), g, y .1, fits)
 says-whole h rest g fits (Refused k at) y =
-    let place : at ≡ length (scheduleBytes h (y .steps)) = y .there ∙ three-more (length (stepsBytes (y .steps))) in
+    let place : at ≡ length (scheduleBytes h (y .steps)) = y .there ∙ header-more h (stepsBytes (y .steps)) in
     rw place
-    (at-step h (y .steps) (y .rest) fits g (y .ranged) (ap (λ l. recordBytes (headerRecord h) ++ l) (y .split)) (y .some) (y .refused))
+    (at-step h (y .steps) (y .rest) fits g (y .ranged) (ap (λ l. recordBytes (headerRecord h) ++ l) (y .split) ∙ sym (append-assoc (recordBytes (headerRecord h)) (stepsBytes (y .steps)) (y .rest))) (y .some) (y .refused))
 
 pub read-says : (bytes : List ℕ) → SaysWhole bytes (readSchedule bytes)
 read-says bytes = by-length (ltb longest (length bytes)) refl
@@ -202,13 +206,10 @@ read-says bytes = by-length (ltb longest (length bytes)) refl
         let y = read-yielded bytes Before.Nothing r l e in
         let h : Header = recordHeader r in
         let placed : isHeader (r .kind) ≡ true = and-left (isHeader (r .kind)) _ (y .follows) in
-        let first : r .kind ≡ Kind.Header = header-kind (r .kind) placed in
-        let same : r ≡ headerRecord h = ap (λ (k : Kind). record { kind = k; first = r .first; second = r .second }) first in
-        let three : l ≡ 3 = y .size ∙ ap recordLength same in
-        let front : bytes ≡ recordBytes (headerRecord h) ++ drop l bytes = y .front ∙ ap (λ (a : Record). recordBytes a ++ drop l bytes) same in
+        let front : bytes ≡ recordBytes (headerRecord h) ++ drop l bytes = y .front in
         let ranged : headerInRange h ≡ true = rw placed at (and-right (isHeader (r .kind)) _ (y .follows)) in
         let x : Reading = stepsFrom h l (drop l bytes) 0 in
-        let said : Says h 3 (drop l bytes) x = subst (λ p. Says h p (drop l bytes) x) (add-zero l ∙ three) (says h l (drop l bytes) 0 (omega arith)) in
+        let said : Says h (recordLength (headerRecord h)) (drop l bytes) x = subst (λ p. Says h p (drop l bytes) x) (add-zero l ∙ y .size) (says h l (drop l bytes) 0 (omega arith)) in
         subst (λ b. SaysWhole b x) (sym front) (says-whole h (drop l bytes) ranged (subst (λ b. length b ≤ longest) front fits) x said)
     by-header (Read.Refused k p) fits e =
         let here : p ≡ 0 = refused-at-first bytes Before.Nothing k p e in

@@ -2,7 +2,7 @@
 -- Assumes nothing.
 use mathlib.Core.Path.{_≡_, sym, ap, subst, _∙_}
 use mathlib.Core.Bool.{true}
-use mathlib.Core.List.{List, [], _∷_, _++_, append-nil}
+use mathlib.Core.List.{List, [], _∷_, _++_, append-nil, append-assoc}
 use Prim.Native.Nat.{ℕ, zero, suc, _+_, _-_, _≤_}
 use native.Mathlib.Omega.{arith}
 use lib.ListN.{length, take}
@@ -13,20 +13,20 @@ use Rattle.kind.specs.Kind.{bodyLength}
 use Rattle.kind.specs.Step.{AllInRange}
 use Rattle.kind.proofs.Numbers.{kind-most}
 use Rattle.schedule.specs.Types.{Step, Header, Record, Before}
-use Rattle.schedule.specs.Record.{headerRecord, stepRecord, headerInRange, recordInRange, recordBytes, longest}
+use Rattle.schedule.specs.Record.{headerRecord, stepRecord, headerInRange, recordInRange, recordLength, recordBytes, longest}
 use Rattle.schedule.specs.Reader.{isPlaced}
-use Rattle.schedule.specs.Schedule.{Refused, stepsFrom, readSchedule, stepsBytes}
+use Rattle.schedule.specs.Schedule.{Accepted, Refused, stepsFrom, readSchedule, stepsBytes}
 use Rattle.schedule.specs.RoundTrip.{BytesKept, StepsKept, ReadInRange, AllBytes, BytesFit, RefusalOf, too-long, at-header, at-step, FirstRefusal}
-use Rattle.schedule.proofs.Laws.{header-size, record-bytes}
+use Rattle.schedule.proofs.Laws.{header-size, header-record, record-bytes}
 use Rattle.schedule.proofs.Records.{step-follows}
-use Rattle.schedule.proofs.Reading.{withSteps, first-steps, after-header, all-read, SaysWhole, read-says, refused-first, still-refused, three-more}
+use Rattle.schedule.proofs.Reading.{withSteps, first-steps, after-header, all-read, SaysWhole, read-says, refused-first, still-refused, header-more, steps-few}
 
 pub steps-kept : StepsKept
 steps-kept h steps g q fits =
     after-header h g (stepsBytes steps) fits
-    ∙ ap (λ l. stepsFrom h 3 l 0) (sym (append-nil (stepsBytes steps)))
-    ∙ first-steps h g steps q 3 []
-    ∙ all-read h (3 + length (stepsBytes steps)) steps
+    ∙ ap (λ l. stepsFrom h (recordLength (headerRecord h)) l 0) (sym (append-nil (stepsBytes steps)))
+    ∙ first-steps h g steps q (recordLength (headerRecord h)) []
+    ∙ all-read h (recordLength (headerRecord h) + length (stepsBytes steps)) steps
 
 pub bytes-kept : BytesKept
 bytes-kept bytes h steps e = subst (SaysWhole bytes) e (read-says bytes) .0
@@ -34,19 +34,25 @@ bytes-kept bytes h steps e = subst (SaysWhole bytes) e (read-says bytes) .0
 pub read-in-range : ReadInRange
 read-in-range bytes h steps e = let x = subst (SaysWhole bytes) e (read-says bytes) in (x .1, x .2, x .3)
 
+-- no more steps than bytes
+pub few-steps : (bytes : List ℕ) (h : Header) (steps : List Step) → readSchedule bytes ≡ Accepted h steps → length steps ≤ longest
+few-steps bytes h steps e =
+    omega (arith, steps-few steps, ap length (bytes-kept bytes h steps e), header-more h (stepsBytes steps), read-in-range bytes h steps e .2)
+
 -- Refusals
 
 is-refused : (bytes : List ℕ) (k place : ℕ) → RefusalOf bytes k place → readSchedule bytes ≡ Refused k place
 is-refused bytes k place (too-long h) = simp (lt-ltb longest (length bytes) h)
 is-refused bytes k place (at-header fits e) = simp (le-ltb longest (length bytes) fits, e)
 is-refused bytes k place (at-step h steps rest fits g q split some e) =
-    let n : ℕ = 3 + length (stepsBytes steps) in
+    let n : ℕ = recordLength (headerRecord h) + length (stepsBytes steps) in
     ap readSchedule split
-    ∙ after-header h g (stepsBytes steps ++ rest) (subst (λ b. length b ≤ longest) split fits)
-    ∙ first-steps h g steps q 3 rest
+    ∙ ap readSchedule (append-assoc (recordBytes (headerRecord h)) (stepsBytes steps) rest)
+    ∙ after-header h g (stepsBytes steps ++ rest) (subst (λ b. length b ≤ longest) (split ∙ append-assoc (recordBytes (headerRecord h)) (stepsBytes steps) rest) fits)
+    ∙ first-steps h g steps q (recordLength (headerRecord h)) rest
     ∙ ap (withSteps steps) (refused-first h n rest k some e)
     ∙ still-refused steps k n
-    ∙ ap (Refused k) (three-more (length (stepsBytes steps)))
+    ∙ ap (Refused k) (header-more h (stepsBytes steps))
 
 pub first-refusal : FirstRefusal
 first-refusal = record { found = λ bytes k place e. subst (SaysWhole bytes) e (read-says bytes); given = is-refused }
@@ -76,4 +82,4 @@ steps-fit h g (s ∷ ss) q =
 
 pub bytes-fit : BytesFit
 bytes-fit h steps g q =
-    all-append (recordBytes (headerRecord h)) (stepsBytes steps) (record-fits 0 (headerRecord h) (omega arith) g) (steps-fit h g steps q)
+    all-append (recordBytes (headerRecord h)) (stepsBytes steps) (record-fits 0 (headerRecord h) (omega arith) (header-record 0 h g)) (steps-fit h g steps q)

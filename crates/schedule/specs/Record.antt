@@ -5,10 +5,9 @@ use mathlib.Core.List.{List, [], _∷_}
 use Prim.Native.Nat.{ℕ, _+_}
 use lib.ListN.{take}
 use Rattle.mask.specs.Mask.{within}
-use Rattle.store.specs.Log.{places}
-use Rattle.kind.specs.Kind.{kindNumber, kindOf, bodyLength, isHeader}
+use Rattle.kind.specs.Kind.{kindNumber, kindOf, bodyLength, isHeader, room}
 use Rattle.kind.specs.Step.{stepKind, firstNumber, secondNumber, ofKind, numberInRange, numbersInRange}
-use Rattle.schedule.specs.Types.{Kind, Step, Header, Record}
+use Rattle.schedule.specs.Types.{Step, Header, Record}
 
 -- the record of a kind's number and the two numbers of its body, 0 where the body has none
 abbrev pub recordOf : ℕ → ℕ → ℕ → Record
@@ -17,10 +16,10 @@ recordOf k a b = record { kind = kindOf k; first = a; second = b }
 -- a header and a step as records, and back
 
 abbrev pub headerRecord : Header → Record
-headerRecord h = record { kind = Kind.Header; first = h .n; second = h .votes }
+headerRecord h = record { kind = h .kind; first = h .n; second = h .votes }
 
 abbrev pub recordHeader : Record → Header
-recordHeader r = record { n = r .first; votes = r .second }
+recordHeader r = record { kind = r .kind; n = r .first; votes = r .second }
 
 abbrev pub stepRecord : Step → Record
 stepRecord s = record { kind = stepKind s; first = firstNumber s; second = secondNumber s }
@@ -28,9 +27,9 @@ stepRecord s = record { kind = stepKind s; first = firstNumber s; second = secon
 abbrev pub recordStep : Record → Step
 recordStep r = ofKind (r .kind) (r .first) (r .second)
 
--- n is 1 to 8, and no vote is beyond n
+-- n is 1 to the room of the header's kind, which a step's kind doesn't have, and no vote is beyond n
 abbrev pub headerInRange : Header → Bool
-headerInRange h = numberInRange 1 (h .n) places && within (h .n) (h .votes)
+headerInRange h = numberInRange 1 (h .n) (room (h .kind)) && within (h .n) (h .votes)
 
 -- a step by n: participants and logs 1 to n, parties 0 to n, unused numbers 0; a header by its own n
 abbrev pub recordInRange : ℕ → Record → Bool

@@ -4,15 +4,15 @@ pub mod reader;
 use kind::Kind;
 use kind::Step;
 use kind::between;
-use store::LOGS;
 ghost use mathlib.Core.Path.{_≡_};
 ghost use Rattle.schedule.specs.Record.{headerInRange, recordHeader, recordStep, recordInRange, recordLength};
 
 // The most bytes that a schedule has, and the last place at which a record is written.
 pub const LONGEST: usize = 32768;
 
-// The header of a schedule: n and the vote mask.
+// The header of a schedule: its kind, n and the vote mask.
 pub struct Header {
+    pub kind: Kind,
     pub n: u32,
     pub votes: u32,
 }
@@ -29,7 +29,8 @@ impl Header {
     pub fn in_range(self) -> bool
         ensures { λ b. ⌜ b ≡ headerInRange self ⌝ }
     {
-        if between(1, self.n, LOGS as u32) {
+        let kind = self.kind;
+        if between(1, self.n, kind.room()) {
             mask::within(self.votes, self.n)
         } else {
             false
@@ -46,11 +47,13 @@ impl Record {
         1 + Kind::body(kind)
     }
 
-    // Its numbers as those of a header.
+    // Its kind and numbers as those of a header.
     pub fn header(self) -> Header
         ensures { λ h. ⌜ h ≡ recordHeader self ⌝ }
     {
+        let kind = self.kind;
         Header {
+            kind: kind,
             n: self.first,
             votes: self.second,
         }

@@ -1,7 +1,7 @@
 -- A part read from the numbers of a release is that part of it, and the numbers with a part put are those of the release with that part. Assumes
 -- nothing.
 use mathlib.Core.Path.{_≡_, refl, sym, ap, ap₂, _∙_}
-use mathlib.Core.List.{List, [], _∷_, map, flatten}
+use mathlib.Core.List.{List, [], map, flatten}
 use Prim.Native.Nat.{ℕ, suc, _+_, _<_}
 use native.Mathlib.Omega.{arith}
 use lib.Dec.{lit<}
@@ -69,12 +69,16 @@ module _ (r : Release) (h : HasPlaces r) where
   unfolding coordinatorIn fields flatten
   coordinator-in = coordinator-numbers .decoded (r .coordinator)
 
+  pub state-in : (i : ℕ) → i < places → getD (fields r) (statesFrom + i) 0 ≡ Participant.stateNumber (participantOf r i)
+  state-in i g = read 2 statesFrom i (begin .states) (site-room siteState i g) ∙ site-number siteState i refl
+
+  pub heard-in : (i : ℕ) → i < places → getD (fields r) (heardFrom + i) 0 ≡ Participant.heardOf (participantOf r i)
+  heard-in i g = read 3 heardFrom i (begin .heards) (site-room siteHeard i g) ∙ site-number siteHeard i refl
+
   pub participant-in : (i : ℕ) → i < places → participantIn (fields r) i ≡ participantOf r i
   unfolding participantIn
   participant-in i g =
-      ap₂ Participant.participantOf
-      (read 2 statesFrom i (begin .states) (site-room siteState i g) ∙ site-number siteState i refl)
-      (read 3 heardFrom i (begin .heards) (site-room siteHeard i g) ∙ site-number siteHeard i refl)
+      ap₂ Participant.participantOf (state-in i g) (heard-in i g)
       ∙ participant-numbers .decoded (participantOf r i)
 
   pub message-in : (k : ℕ) → k < types → getD (fields r) (messagesFrom + k) 0 ≡ getD (r .messages) k 0

@@ -33,7 +33,13 @@ pieces r =
 unfoldable pub fields : Release → List ℕ
 fields r = flatten (pieces r)
 
--- where they begin
+-- where they stand and begin
+
+abbrev pub votesFrom : ℕ
+votesFrom = 1
+
+abbrev pub coordinatorFrom : ℕ
+coordinatorFrom = 2
 
 abbrev pub messagesFrom : ℕ
 messagesFrom = 4
@@ -53,13 +59,36 @@ pub record HasPlaces (r : Release) : Type 0 where
   pub messages : length (r .messages) ≡ types
   pub calls : length (r .calls) ≡ suc places
 
--- a part read
+-- a number read
+
+abbrev pub nIn : List ℕ → ℕ
+nIn l = getD l 0 0
 
 abbrev pub votesIn : List ℕ → ℕ
-votesIn l = getD l 1 0
+votesIn l = getD l votesFrom 0
+
+abbrev pub coordinatorStateIn : List ℕ → ℕ
+coordinatorStateIn l = getD l coordinatorFrom 0
+
+abbrev pub coordinatorHeardIn : List ℕ → ℕ
+coordinatorHeardIn l = getD l (coordinatorFrom + 1) 0
+
+abbrev pub messageIn : List ℕ → ℕ → ℕ
+messageIn l k = getD l (messagesFrom + k) 0
+
+abbrev pub stateIn : List ℕ → ℕ → ℕ
+stateIn l i = getD l (statesFrom + i) 0
+
+abbrev pub heardIn : List ℕ → ℕ → ℕ
+heardIn l i = getD l (heardFrom + i) 0
+
+abbrev pub callsIn : List ℕ → ℕ → ℕ
+callsIn l p = getD l (countsFrom + p) 0
+
+-- a part read
 
 unfoldable pub coordinatorIn : List ℕ → Coordinator
-coordinatorIn l = Coordinator.coordinatorOf (getD l 2 0) (getD l 3 0)
+coordinatorIn l = Coordinator.coordinatorOf (coordinatorStateIn l) (coordinatorHeardIn l)
 
 unfoldable pub maskPlace : Message → ℕ
 maskPlace m = messagesFrom + messagePlace m
@@ -68,12 +97,12 @@ unfoldable pub maskIn : List ℕ → Message → ℕ
 maskIn l m = getD l (maskPlace m) 0
 
 unfoldable pub participantIn : List ℕ → ℕ → Participant
-participantIn l i = Participant.participantOf (getD l (statesFrom + i) 0) (getD l (heardFrom + i) 0)
+participantIn l i = Participant.participantOf (stateIn l i) (heardIn l i)
 
 -- a part put
 
 unfoldable pub withCoordinatorIn : Coordinator → List ℕ → List ℕ
-withCoordinatorIn c l = set (set l 2 (Coordinator.stateNumber c)) 3 (Coordinator.heardOf c)
+withCoordinatorIn c l = set (set l coordinatorFrom (Coordinator.stateNumber c)) (coordinatorFrom + 1) (Coordinator.heardOf c)
 
 unfoldable pub withMaskIn : Message → ℕ → List ℕ → List ℕ
 withMaskIn m x l = set l (maskPlace m) x
@@ -82,23 +111,20 @@ unfoldable pub withParticipantIn : ℕ → Participant → List ℕ → List ℕ
 withParticipantIn i p l = set (set l (statesFrom + i) (Participant.stateNumber p)) (heardFrom + i) (Participant.heardOf p)
 
 unfoldable pub countedIn : ℕ → List ℕ → List ℕ
-countedIn p l = set l (countsFrom + p) (getD l (countsFrom + p) 0 + 1)
+countedIn p l = set l (countsFrom + p) (callsIn l p + 1)
 
--- the release that the numbers and a store are of. A count has two bytes
-
-abbrev pub messageIn : List ℕ → ℕ → ℕ
-messageIn l k = getD l (messagesFrom + k) 0
+-- the release that the numbers and a store represent. A count has two bytes
 
 abbrev pub siteIn : List ℕ → ℕ → Site
 siteIn l i = record { participant = participantIn l i }
 
 abbrev pub countIn : List ℕ → ℕ → ℕ
-countIn l p = getD l (countsFrom + p) 0 % 65536
+countIn l p = callsIn l p % 65536
 
 abbrev pub releaseIn : List ℕ → Store → Release
 releaseIn l s =
     record {
-      n = getD l 0 0;
+      n = nIn l;
       votes = votesIn l;
       coordinator = coordinatorIn l;
       messages = tabulate types (messageIn l);
@@ -107,7 +133,7 @@ releaseIn l s =
       calls = tabulate (suc places) (countIn l);
     }
 
--- a change of a release made on its numbers: those after are the changed release's, whatever release those before are of
+-- a change of a release made on its numbers: those after are the changed release's, whatever release those before represent
 
 abbrev pub Puts : (Release → Release) → List ℕ → List ℕ → Type 0
 Puts f before after = (r : Release) → HasPlaces r → before ≡ fields r → after ≡ fields (f r)

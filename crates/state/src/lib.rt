@@ -20,17 +20,17 @@ ghost use Rattle.rules.specs.State.{types, waiting, fresh};
 ghost use Rattle.state.specs.Fields.{fields, countsFrom, votesIn, participantIn, coordinatorIn, maskIn, maskPlace, withParticipantIn, withCoordinatorIn, withMaskIn, countedIn, messageIn, siteIn, countIn, releaseIn, Puts, withMessages, withSites, withCalls};
 
 // Where each part begins.
-const VOTES: usize = 1;
+pub const VOTES: usize = 1;
 
-const COORDINATOR: usize = 2;
+pub const COORDINATOR: usize = 2;
 
-const MESSAGES: usize = 4;
+pub const MESSAGES: usize = 4;
 
-const STATES: usize = MESSAGES + TYPES;
+pub const STATES: usize = MESSAGES + TYPES;
 
-const HEARD: usize = STATES + LOGS;
+pub const HEARD: usize = STATES + LOGS;
 
-const COUNTS: usize = HEARD + LOGS;
+pub const COUNTS: usize = HEARD + LOGS;
 
 // How many numbers there are.
 pub const FIELDS: usize = COUNTS + PARTIES;
@@ -149,7 +149,7 @@ fn counts(fields: &[u32; FIELDS]) -> [u16; PARTIES]
     counts
 }
 
-// The release that the numbers and the store are of.
+// The release that the numbers and the store represent.
 pub fn release(fields: &[u32; FIELDS], store: Store) -> Release
     ensures { λ r. ⌜ r ≡ releaseIn (now (fields .entry)) store ⌝ }
 {

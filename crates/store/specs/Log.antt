@@ -30,9 +30,9 @@ isAbort Yes = false
 isAbort Abort = true
 isAbort Commit = false
 
--- Eight logs make the store: the places of a release
+-- How many logs make the store: the places of every release. A header says how many of them have participants
 abbrev pub places : ℕ
-places = 8
+places = 32
 
 abbrev pub empty : LogPair
 empty = record { first = None; last = None }

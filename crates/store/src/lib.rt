@@ -5,7 +5,7 @@ ghost use Rattle.store.specs.Log.{recordNumber, recordOf, isRecord, empt
 ghost use Rattle.store.specs.Entry.{handed, logOnceEntry, logHands, logEntry};
 
 // How many logs a store has: one for each participant that it has room for.
-pub const LOGS: usize = 8;
+pub const LOGS: usize = 32;
 
 // A log record.
 pub enum LogRecord {

@@ -3,9 +3,10 @@
 use mathlib.Core.Path.{_≡_, refl}
 use mathlib.Core.Bool.{Bool, true, _&&_}
 use mathlib.Core.List.{List, [], _∷_}
-use Prim.Native.Nat.{ℕ}
+use Prim.Native.Nat.{ℕ, suc, _-_}
 use lib.Dec.{eqb}
 use lib.ListN.{replicate, set}
+use Rattle.store.specs.Log.{places}
 use Rattle.rules.specs.Step.{participantTo, participantCalls, coordinatorTo, coordinatorCalls}
 use Rattle.number.specs.Table.{tabulate, every}
 use Rattle.number.specs.Refusal.{accepted, outOfRange, notDue}
@@ -19,7 +20,7 @@ fields s h f l = record { state = s; heard = h; first = f; last = l }
 
 -- participants 1, 2 and, beyond n, 3; the others are zeros
 abbrev three : ParticipantFields → ParticipantFields → ParticipantFields → List ParticipantFields
-three a b c = a ∷ b ∷ c ∷ replicate 5 (fields 0 0 0 0)
+three a b c = a ∷ b ∷ c ∷ replicate (places - 3) (fields 0 0 0 0)
 
 abbrev zero : ParticipantFields
 zero = fields 0 0 0 0
@@ -29,11 +30,11 @@ tail n v s h ms ps cs = record { n = n; votes = v; state = s; heard = h; message
 
 -- no messages, nobody but zeros, no calls; the fields of the coordinator are given
 abbrev idleTail : ℕ → ℕ → ℕ → ℕ → Tail
-idleTail n v s h = tail n v s h (replicate 5 0) (replicate 8 zero) (replicate 9 0)
+idleTail n v s h = tail n v s h (replicate 5 0) (replicate places zero) (replicate (suc places) 0)
 
 -- the coordinator is idle; the participants are given
 abbrev sitesTail : ParticipantFields → ParticipantFields → ParticipantFields → Tail
-sitesTail a b c = tail 2 3 0 0 (replicate 5 0) (three a b c) (replicate 9 0)
+sitesTail a b c = tail 2 3 0 0 (replicate 5 0) (three a b c) (replicate (suc places) 0)
 
 -- a tail, a step by its kind and two numbers; the number and the byte that come back
 record Case : Type 0 where
@@ -63,13 +64,13 @@ cases =
     ∷ case (idleTail 2 3 1 3) 8 0 0 outOfRange 0
     ∷ case (idleTail 2 3 1 2) 8 0 0 accepted 1
     -- a message mask beyond n
-    ∷ case (tail 2 3 0 0 (set (replicate 5 0) 4 4) (replicate 8 zero) (replicate 9 0)) 2 0 0 outOfRange 0
+    ∷ case (tail 2 3 0 0 (set (replicate 5 0) 4 4) (replicate places zero) (replicate (suc places) 0)) 2 0 0 outOfRange 0
     -- a participant's state; its heard mask outside 4, with the own bit, full, in 4 with one participant
     ∷ case (sitesTail (fields 10 0 0 0) zero zero) 2 0 0 outOfRange 0
     ∷ case (sitesTail (fields 3 2 1 1) zero zero) 2 0 0 outOfRange 0
     ∷ case (sitesTail (fields 4 1 1 1) zero zero) 2 0 0 outOfRange 0
     ∷ case (sitesTail (fields 4 2 1 1) zero zero) 2 0 0 outOfRange 0
-    ∷ case (tail 1 1 0 0 (replicate 5 0) (three (fields 4 0 1 1) zero zero) (replicate 9 0)) 2 0 0 outOfRange 0
+    ∷ case (tail 1 1 0 0 (replicate 5 0) (three (fields 4 0 1 1) zero zero) (replicate (suc places) 0)) 2 0 0 outOfRange 0
     -- a record above 3, a forbidden pair, and each field beyond n
     ∷ case (sitesTail (fields 0 0 4 0) zero zero) 2 0 0 outOfRange 0
     ∷ case (sitesTail (fields 0 0 2 3) zero zero) 2 0 0 outOfRange 0
@@ -77,9 +78,9 @@ cases =
     ∷ case (sitesTail zero zero (fields 0 1 0 0)) 2 0 0 outOfRange 0
     ∷ case (sitesTail zero zero (fields 0 0 1 1)) 2 0 0 outOfRange 0
     -- a count of 65,535, also where the step is no call; one less; a count beyond n
-    ∷ case (tail 2 3 0 0 (replicate 5 0) (replicate 8 zero) (set (replicate 9 0) 2 65535)) 2 0 0 outOfRange 0
-    ∷ case (tail 2 3 0 0 (replicate 5 0) (replicate 8 zero) (set (replicate 9 0) 2 65534)) 2 0 0 accepted 1
-    ∷ case (tail 2 3 0 0 (replicate 5 0) (replicate 8 zero) (set (replicate 9 0) 3 1)) 2 0 0 outOfRange 0
+    ∷ case (tail 2 3 0 0 (replicate 5 0) (replicate places zero) (set (replicate (suc places) 0) 2 65535)) 2 0 0 outOfRange 0
+    ∷ case (tail 2 3 0 0 (replicate 5 0) (replicate places zero) (set (replicate (suc places) 0) 2 65534)) 2 0 0 accepted 1
+    ∷ case (tail 2 3 0 0 (replicate 5 0) (replicate places zero) (set (replicate (suc places) 0) 3 1)) 2 0 0 outOfRange 0
     -- no step: a header, an unknown kind, a type 0 or 6, a number that the kind does not use
     ∷ case (idleTail 2 3 0 0) 1 2 3 outOfRange 0
     ∷ case (idleTail 2 3 0 0) 11 0 0 outOfRange 0

@@ -4,9 +4,9 @@ use mathlib.Core.Path.{_≡_, refl, sym, ap, ap₂, _∙_}
 use mathlib.Core.Bool.{Bool, true, false, cond, _&&_}
 use Prim.Native.Nat.{ℕ, zero, suc, _≤_, _<_}
 use native.Mathlib.Omega.{arith}
-use lib.Dec.{eqb, leb, ltb}
+use lib.Dec.{leb, ltb}
 use lib.ListN.{length, length-replicate, getD}
-use borrow.Author.Tests.{ltb-true, ltb-false, leb-false, eqb-true, lt-ltb, le-leb}
+use borrow.Author.Tests.{ltb-true, ltb-false, leb-false, lt-ltb, le-leb}
 use Rattle.number.proofs.Laws.{and-left, and-right, and-true, is-number, are-numbers}
 use Rattle.mask.specs.Mask.{within}
 use Rattle.store.specs.Log.{recordNumber, recordOf, isRecord, isAllowed, empty, places}
@@ -15,6 +15,7 @@ use Rattle.participant.specs.Participant
 use Rattle.coordinator.specs.Coordinator
 use Rattle.participant.proofs.Numbers.{participant-numbers}
 use Rattle.coordinator.proofs.Numbers.{coordinator-numbers}
+use Rattle.kind.specs.Kind.{room}
 use Rattle.kind.specs.Step.{stepNumber, firstNumber, secondNumber, inRange, numbersInRange}
 use Rattle.kind.proofs.Numbers.{step-numbers, step-tested}
 use Rattle.rules.specs.State.{participantOf, logOf, firstOf, lastOf, waiting, fresh}
@@ -24,12 +25,12 @@ use Rattle.rules.specs.Range.{ReleaseInRange}
 use Rattle.number.specs.Table.{tabulate}
 use Rattle.tail.specs.Tail.{fieldsOf, tailOf, siteOf, pairOf, fieldsAt, releaseOf, recordsInRange, fieldsZero, participantInRange, participantsInRange, countInRange, tailInRange, TailNumbers}
 use Rattle.tail.specs.Single.{handed, singleStep, SingleStepFollows}
-use Rattle.tail.specs.Types.{LogPair, Message, Participant, Coordinator, Site, Release, Step, Tail, ParticipantFields}
+use Rattle.tail.specs.Types.{Kind, LogPair, Message, Participant, Coordinator, Site, Release, Step, Tail, ParticipantFields}
 use Rattle.number.proofs.Table.{getD-tabulate, tabulate-list, every-at, every-all}
 use Rattle.rules.proofs.Agreement.{Later, later, fresh-inv}
 use Rattle.rules.proofs.Reached.{reached-in-range}
 use Rattle.rules.proofs.Room.{SameRoom, after-room}
-use Rattle.tail.proofs.TailRange.{parties-in-range}
+use Rattle.tail.proofs.TailRange.{parties-in-range, zero-fields}
 use Rattle.tail.proofs.SingleCases.{single-taken}
 
 -- from numbers to a release and back to them
@@ -55,23 +56,17 @@ fields-encoded n i f true q =
     let t = and-right (isRecord (f .first)) _ r in
     fields-equal (p .0) (p .1) (record-numbers .encoded (f .first) (and-left _ _ r)) (record-numbers .encoded (f .last) (and-left _ _ t))
 fields-encoded n i f false q =
-    let a : f .state ≡ 0 = eqb-true (f .state) 0 (and-left _ _ q) in
-    let r = and-right (eqb (f .state) 0) _ q in
-    let b : f .heard ≡ 0 = eqb-true (f .heard) 0 (and-left _ _ r) in
-    let t = and-right (eqb (f .heard) 0) _ r in
-    let c : f .first ≡ 0 = eqb-true (f .first) 0 (and-left _ _ t) in
-    let d : f .last ≡ 0 = eqb-true (f .last) 0 (and-right (eqb (f .first) 0) _ t) in
-    fields-equal (rw a refl) (rw a (sym b)) (rw c refl) (rw d refl)
+    rw (zero-fields f q) refl
 
-tail-encoded : (t : Tail) → length (t .participants) ≡ places → tailInRange t ≡ true → tailOf (releaseOf t) ≡ t
-tail-encoded t l q =
+tail-encoded : (k : Kind) (t : Tail) → length (t .participants) ≡ places → tailInRange k t ≡ true → tailOf (releaseOf t) ≡ t
+tail-encoded k t l q =
     rw (p .0, p .1, each) refl
   where
     p : (Coordinator.stateNumber (Coordinator.coordinatorOf (t .state) (t .heard)) ≡ t .state) × (Coordinator.heardOf (Coordinator.coordinatorOf (t .state) (t .heard)) ≡ t .heard)
-    p = coordinator-numbers .encoded (t .state) (t .heard) (and-left _ _ (and-left (Coordinator.numbersInRange (t .n) (t .state) (t .heard)) _ (parties-in-range t q)))
+    p = coordinator-numbers .encoded (t .state) (t .heard) (and-left _ _ (and-left (Coordinator.numbersInRange (t .n) (t .state) (t .heard)) _ (parties-in-range k t q)))
 
     passed : participantsInRange t ≡ true
-    passed = and-right (Coordinator.numbersInRange (t .n) (t .state) (t .heard)) _ (parties-in-range t q)
+    passed = and-right (Coordinator.numbersInRange (t .n) (t .state) (t .heard)) _ (parties-in-range k t q)
 
     at : (i : ℕ) → i < places → fieldsOf (releaseOf t) i ≡ fieldsAt t i
     at i h =
@@ -142,34 +137,34 @@ count-tested : (r : Release) → ReleaseInRange r → Countable (r .calls) → (
 count-tested r g k p true e = rw e (lt-ltb (getD (r .calls) p 0) 65535 (k p))
 count-tested r g k p false e = rw (e, g .calls-beyond p (leb-false p (r .n) e)) refl
 
-pub tail-in-range : (r : Release) → r .n ≤ places → ReleaseInRange r → Countable (r .calls) → tailInRange (tailOf r) ≡ true
-tail-in-range r h g k =
-    and-true _ _ (and-true _ _ (and-true _ _ (le-leb 1 (r .n) (g .positive)) (le-leb (r .n) places h)) (g .votes))
+pub tail-in-range : (kind : Kind) (r : Release) → r .n ≤ room kind → ReleaseInRange r → Countable (r .calls) → tailInRange kind (tailOf r) ≡ true
+tail-in-range kind r h g k =
+    and-true _ _ (and-true _ _ (and-true _ _ (le-leb 1 (r .n) (g .positive)) (le-leb (r .n) (room kind) h)) (g .votes))
     (and-true _ _ (every-all _ 5 (message-tested r g))
     (and-true _ _ (and-true _ _ (coordinator-numbers-tested (r .n) (r .coordinator) (g .coordinator)) (every-all _ places at))
-    (every-all _ 9 (λ p l. count-tested r g k p (leb p (r .n)) refl))))
+    (every-all _ (suc places) (λ p l. count-tested r g k p (leb p (r .n)) refl))))
   where
     at : (i : ℕ) → i < places → participantInRange (r .n) i (fieldsAt (tailOf r) i) ≡ true
     at i l = ap (participantInRange (r .n) i) (getD-tabulate places (fieldsOf r) i _ l) ∙ fields-tested r g i (ltb i (r .n)) refl
 
 -- and the single step follows the run
 
-single-follows : (r : Release) → r .n ≤ places → length (r .sites) ≡ places → length (r .store .logs) ≡ places → ReleaseInRange r → Countable (r .calls)
+single-follows : (r : Release) → r .n ≤ room Kind.Header → length (r .sites) ≡ places → length (r .store .logs) ≡ places → ReleaseInRange r → Countable (r .calls)
     → (s : Step) → inRange (r .n) s ≡ true → singleStep (tailOf r) (stepNumber s) (firstNumber s) (secondNumber s) ≡ handed (tailOf r) (step r s)
 single-follows r h l m g k s q =
-    sym (single-taken (tailOf r) (stepNumber s) (firstNumber s) (secondNumber s) (tail-in-range r h g k) (step-tested (r .n) s q))
+    sym (single-taken (tailOf r) (stepNumber s) (firstNumber s) (secondNumber s) (tail-in-range Kind.Header r h g k) (step-tested (r .n) s q))
     ∙ ap₂ (λ (x : Release) (y : Step). handed (tailOf r) (step x y)) (release-decoded r l m) (step-numbers .decoded s)
 
 pub single-step-follows : SingleStepFollows
 single-step-follows n votes pos fits w steps h s q k =
     single-follows r (rw (c .same-n) fits) (room .sites ∙ length-replicate places waiting) (room .logs ∙ length-replicate places empty)
-    (reached-in-range places n votes pos fits w steps h) k s (rw (c .same-n) q)
+    (reached-in-range places n votes pos (omega arith) w steps h) k s (rw (c .same-n) q)
   where
     r : Release
     r = after (fresh places n votes) steps
 
     c : Later (fresh places n votes) r
-    c = later (fresh places n votes) steps h (fresh-inv places n votes fits)
+    c = later (fresh places n votes) steps h (fresh-inv places n votes (omega arith))
 
     room : SameRoom (fresh places n votes) r
     room = after-room (fresh places n votes) steps

@@ -6,13 +6,14 @@ use Prim.Native.Nat.{ℕ, _≤_}
 use Rattle.number.specs.Refusal.{accepted, outOfRange, notDue}
 use Rattle.mask.specs.Mask.{within}
 use Rattle.store.specs.Log.{places}
+use Rattle.kind.specs.Kind.{room}
 use Rattle.kind.specs.Step.{stepNumber, firstNumber, secondNumber, stepOf, inRange, numbersInRange, AllInRange}
 use Rattle.rules.specs.State.{fresh}
 use Rattle.rules.specs.Report.{moves, stepByte}
 use Rattle.rules.specs.Step.{step}
 use Rattle.rules.specs.Run.{after, Countable}
 use Rattle.tail.specs.Tail.{tailOf, releaseOf, tailInRange}
-use Rattle.tail.specs.Types.{Tail, Step, Report, Stepped}
+use Rattle.tail.specs.Types.{Kind, Tail, Step, Report, Stepped}
 
 -- a refusal hands the state back as given
 abbrev pub refused : ℕ → Tail → Stepped
@@ -24,12 +25,12 @@ handed t r = cond (moves (r .outcome)) (record { number = accepted; state = tail
 
 -- Order: 5, 7
 abbrev pub singleStep : Tail → ℕ → ℕ → ℕ → Stepped
-singleStep t kind a b = cond (tailInRange t && numbersInRange (t .n) kind a b) (handed t (step (releaseOf t) (stepOf kind a b))) (refused outOfRange t)
+singleStep t kind a b = cond (tailInRange Kind.Header t && numbersInRange (t .n) kind a b) (handed t (step (releaseOf t) (stepOf kind a b))) (refused outOfRange t)
 
 -- From every release that a run reaches, with counts in range, the single step is the step of the rules. Proved in proofs/Follows.antt
 abbrev pub SingleStepFollows : Type 0
 SingleStepFollows =
-    (n votes : ℕ) → 1 ≤ n → n ≤ places → within n votes ≡ true → (steps : List Step) → AllInRange n steps → (s : Step) → inRange n s ≡ true
+    (n votes : ℕ) → 1 ≤ n → n ≤ room Kind.Header → within n votes ≡ true → (steps : List Step) → AllInRange n steps → (s : Step) → inRange n s ≡ true
     → Countable (after (fresh places n votes) steps .calls)
     → singleStep (tailOf (after (fresh places n votes) steps)) (stepNumber s) (firstNumber s) (secondNumber s)
     ≡ handed (tailOf (after (fresh places n votes) steps)) (step (after (fresh places n votes) steps) s)

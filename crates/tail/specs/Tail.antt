@@ -12,10 +12,10 @@ use Rattle.coordinator.specs.Coordinator
 use Rattle.schedule.specs.Record.{headerInRange}
 use Rattle.rules.specs.State.{participantOf, logOf, types}
 use Rattle.rules.specs.Run.{countLimit}
-use Rattle.tail.specs.Types.{LogPair, Participant, Header, Site, Release, ParticipantFields, Tail}
+use Rattle.tail.specs.Types.{Kind, LogPair, Participant, Header, Site, Release, ParticipantFields, Tail}
 
--- a release in numbers: n, votes, coordinator state and heard mask, five message masks; for participants 1 to 8 state, heard mask, first, last;
--- for parties 0 to 8 the due store calls made
+-- a release in numbers: n, votes, coordinator state and heard mask, five message masks; for each participant state, heard mask, first, last; for each
+-- party the due store calls made
 
 abbrev pub fieldsFor : Participant → LogPair → ParticipantFields
 fieldsFor p l =
@@ -44,8 +44,12 @@ siteOf f = record { participant = Participant.participantOf (f .state) (f .heard
 abbrev pub pairOf : ParticipantFields → LogPair
 pairOf f = record { first = recordOf (f .first); last = recordOf (f .last) }
 
+-- beyond n
+abbrev pub zeros : ParticipantFields
+zeros = record { state = 0; heard = 0; first = 0; last = 0 }
+
 abbrev pub fieldsAt : Tail → ℕ → ParticipantFields
-fieldsAt t i = getD (t .participants) i (record { state = 0; heard = 0; first = 0; last = 0 })
+fieldsAt t i = getD (t .participants) i zeros
 
 abbrev pub releaseOf : Tail → Release
 releaseOf t =
@@ -61,9 +65,9 @@ releaseOf t =
 
 -- field by field, what the tail of that n could hold
 
--- n and votes are those of a header
-abbrev pub headerOf : Tail → Header
-headerOf t = record { n = t .n; votes = t .votes }
+-- n and votes are those of a header of that kind
+abbrev pub headerOf : Kind → Tail → Header
+headerOf k t = record { kind = k; n = t .n; votes = t .votes }
 
 abbrev pub messagesInRange : Tail → Bool
 messagesInRange t = every (λ k. within (t .n) (getD (t .messages) k 0)) types
@@ -92,10 +96,11 @@ countInRange n p k = cond (leb p n) (ltb k countLimit) (eqb k 0)
 abbrev pub callsInRange : Tail → Bool
 callsInRange t = every (λ p. countInRange (t .n) p (getD (t .calls) p 0)) (suc places)
 
-abbrev pub tailInRange : Tail → Bool
-tailInRange t = headerInRange (headerOf t) && (messagesInRange t && (partiesInRange t && callsInRange t))
+-- under a header of that kind
+abbrev pub tailInRange : Kind → Tail → Bool
+tailInRange k t = headerInRange (headerOf k t) && (messagesInRange t && (partiesInRange t && callsInRange t))
 
 -- The way back and the numbers belong together: decode after encode is the identity, encode after decode on what is in range
 pub record TailNumbers : Type 0 where
   pub decoded : (r : Release) → length (r .sites) ≡ places → length (r .store .logs) ≡ places → releaseOf (tailOf r) ≡ r
-  pub encoded : (t : Tail) → length (t .participants) ≡ places → tailInRange t ≡ true → tailOf (releaseOf t) ≡ t
+  pub encoded : (k : Kind) (t : Tail) → length (t .participants) ≡ places → tailInRange k t ≡ true → tailOf (releaseOf t) ≡ t

@@ -4,6 +4,7 @@ pub use Rattle.store.specs.declared.Store.{Store}
 pub use Rattle.message.specs.declared.Message.{Message}
 pub use Rattle.participant.specs.declared.Participant.{Participant}
 pub use Rattle.coordinator.specs.declared.Coordinator.{Coordinator}
+pub use Rattle.kind.specs.declared.Kind.{Kind}
 pub use Rattle.kind.specs.declared.Step.{Step}
 pub use Rattle.schedule.specs.declared.Header.{Header}
 pub use Rattle.rules.specs.declared.Site.{Site}

@@ -2,6 +2,7 @@
 pub mod single;
 
 use coordinator::Coordinator;
+use kind::Kind;
 use participant::Participant;
 use rules::PARTIES;
 use rules::Release;
@@ -273,11 +274,12 @@ impl Tail {
         }
     }
 
-    // Whether the tail of that n can hold these fields.
-    pub fn in_range(self) -> bool
-        ensures { λ b. ⌜ b ≡ tailInRange self ⌝ }
+    // Whether the tail of that n can hold these fields, under a header of a kind.
+    pub fn in_range(self, kind: Kind) -> bool
+        ensures { λ b. ⌜ b ≡ tailInRange kind self ⌝ }
     {
         let header = Header {
+            kind: kind,
             n: self.n,
             votes: self.votes,
         };

@@ -1,12 +1,12 @@
 // The single step: one step of a whole release's state, on document 01's numbers.
 use super::Tail;
+use effect::outcome::moves;
+use effect::outcome::report_byte;
 use kind::Kind;
 use kind::Step;
 use number::NOT_DUE;
 use number::OUT_OF_RANGE;
-use release::outcome::moves;
-use release::outcome::report_byte;
-use release::step::step;
+use release::step;
 use state::fields_of;
 use state::release;
 ghost use mathlib.Core.Path.{_≡_};
@@ -35,7 +35,7 @@ impl Tail {
     }
 
     fn stepped(self, s: Step) -> Stepped
-        requires { ⌜ (tailInRange self ≡ true) × (inRange (self .n) s ≡ true) ⌝ }
+        requires { ⌜ (tailInRange Kind.Header self ≡ true) × (inRange (self .n) s ≡ true) ⌝ }
         ensures { λ x. ⌜ x ≡ handed self (step (releaseOf self) s) ⌝ }
     {
         let before = self.release();
@@ -60,7 +60,7 @@ impl Tail {
     pub fn single_step(self, kind: u32, a: u32, b: u32) -> Stepped
         ensures { λ s. ⌜ s ≡ singleStep self kind a b ⌝ }
     {
-        if self.in_range() {
+        if self.in_range(Kind::Header) {
             if Step::numbers_in_range(self.n, kind, a, b) {
                 self.stepped(Step::of(Kind::of(kind), a, b))
             } else {

@@ -7,8 +7,8 @@ use lib.Dec.{leb, ltb}
 use borrow.Author.Tests.{leb-true, ltb-false}
 use Rattle.number.specs.Refusal.{tooShort}
 use Rattle.number.proofs.Laws.{and-left, and-right}
-use Rattle.store.specs.Log.{places}
-use Rattle.writer.specs.Types.{Record, Written}
+use Rattle.kind.specs.Kind.{room}
+use Rattle.writer.specs.Types.{Kind, Record, Written}
 use Rattle.schedule.specs.Record.{longest}
 use Rattle.writer.specs.Writer.{isWritable, roomAnswer}
 use Rattle.schedule.proofs.Laws.{record-bytes}
@@ -17,7 +17,7 @@ pub writable-place : (place : ℕ) (r : Record) → isWritable place r ≡ true 
 writable-place place r q = leb-true place longest (and-left (leb place longest) _ q)
 
 pub writable-bytes : (place : ℕ) (r : Record) → isWritable place r ≡ true → (r .first < 256) × (r .second < 256)
-writable-bytes place r q = record-bytes places r (omega arith) (and-right (leb place longest) _ q)
+writable-bytes place r q = record-bytes (room Kind.Header) r (omega arith) (and-right (leb place longest) _ q)
 
 -- an answer that is done has room for all that is needed
 pub room-done : (room needed end : ℕ) → roomAnswer room needed ≡ Written.Done end → (end ≡ needed) × (needed ≤ room)

@@ -14,6 +14,7 @@ use Rattle.schedule.specs.Reader.{readerAnswers}
 use Rattle.schedule.specs.Schedule.{stepsBytes}
 use Rattle.schedule.specs.RoundTrip.{mayFollow}
 use Rattle.writer.specs.RoundTrip.{leavesFor, ReadAfterWrite, WriteAfterRead, writtenInTurn, WrittenInTurn}
+use Rattle.schedule.proofs.Laws.{header-follows}
 use Rattle.schedule.proofs.Records.{record-length, front-length, read-front, read-yielded, step-follows}
 use Rattle.writer.proofs.Writing.{written}
 
@@ -66,5 +67,5 @@ steps-in-turn h g (s ∷ ss) q buffer place near room =
 
 pub written-in-turn : WrittenInTurn
 written-in-turn buffer h steps g q near room =
-    turn buffer 0 Before.Nothing (headerRecord h) (map stepRecord steps) (stepsBytes steps) g (omega arith) (omega arith)
-    (λ b enough. steps-in-turn h g steps q b 3 (omega arith) enough)
+    turn buffer 0 Before.Nothing (headerRecord h) (map stepRecord steps) (stepsBytes steps) (header-follows h g) (omega arith) (omega arith)
+    (λ b enough. steps-in-turn h g steps q b (0 + recordLength (headerRecord h)) (omega (arith, front-length (headerRecord h) (stepsBytes steps))) enough)

@@ -9,31 +9,30 @@ use lib.Seq.{sets}
 use borrow.Author.Tests.{le-ltb, le-leb}
 use Rattle.number.specs.Refusal.{unknownKind, outOfRange, tooShort}
 use Rattle.number.proofs.Laws.{and-left, and-right, and-true, is-number}
-use Rattle.store.specs.Log.{places}
-use Rattle.kind.specs.Kind.{kindNumber, kindOf, isHeader}
+use Rattle.kind.specs.Kind.{kindNumber, kindOf, isHeader, room}
 use Rattle.kind.specs.Step.{numbersInRange}
-use Rattle.kind.proofs.Numbers.{kind-numbers, more-tested}
+use Rattle.kind.proofs.Numbers.{kind-numbers, more-tested, room-most}
 use Rattle.writer.specs.Types.{Kind, Record, Before, Written}
 use Rattle.schedule.specs.Record.{recordOf, recordHeader, headerInRange, recordInRange, recordLength, recordBytes, longest}
 use Rattle.schedule.specs.Reader.{isPlaced, inRangeAfter}
 use Rattle.writer.specs.Writer.{isWritable, roomAnswer, recordAnswer, leaves}
 use Rattle.schedule.specs.RoundTrip.{mayFollow}
 use Rattle.writer.specs.RoundTrip.{answersFor, leavesFor}
-use Rattle.schedule.proofs.Laws.{header-size}
+use Rattle.schedule.proofs.Laws.{header-room}
 use Rattle.schedule.proofs.Records.{recordWith}
 
-more-range : (n : ℕ) (r : Record) → n ≤ places → recordInRange n r ≡ true → recordInRange places r ≡ true
+more-range : (n : ℕ) (r : Record) → n ≤ room Kind.Header → recordInRange n r ≡ true → recordInRange (room Kind.Header) r ≡ true
 more-range n r h q = by (isHeader (r .kind)) q
   where
     by : (b : Bool) → cond b (headerInRange (recordHeader r)) (numbersInRange n (kindNumber (r .kind)) (r .first) (r .second)) ≡ true
-        → cond b (headerInRange (recordHeader r)) (numbersInRange places (kindNumber (r .kind)) (r .first) (r .second)) ≡ true
+        → cond b (headerInRange (recordHeader r)) (numbersInRange (room Kind.Header) (kindNumber (r .kind)) (r .first) (r .second)) ≡ true
     by true q = q
-    by false q = more-tested n places h (kindNumber (r .kind)) (r .first) (r .second) q
+    by false q = more-tested n (room Kind.Header) h (kindNumber (r .kind)) (r .first) (r .second) q
 
-after-writable : (before : Before) (r : Record) → inRangeAfter before r ≡ true → recordInRange places r ≡ true
+after-writable : (before : Before) (r : Record) → inRangeAfter before r ≡ true → recordInRange (room Kind.Header) r ≡ true
 after-writable Before.Nothing r q = more-range 0 r (omega arith) q
 after-writable (Before.Header h) r q =
-    more-range (h .n) r (header-size h (and-left (headerInRange h) _ q) .1) (and-right (headerInRange h) _ q)
+    more-range (h .n) r (omega (arith, header-room h (and-left (headerInRange h) _ q) .1, room-most (h .kind))) (and-right (headerInRange h) _ q)
 
 pub written : (buffer : List ℕ) (place : ℕ) (before : Before) (r : Record) → mayFollow before r ≡ true → place ≤ longest
     → place + recordLength r ≤ length buffer

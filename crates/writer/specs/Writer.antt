@@ -6,14 +6,13 @@ use lib.Dec.{leb, ltb}
 use lib.ListN.{length}
 use lib.Seq.{sets}
 use Rattle.number.specs.Refusal.{Handed, hands, accepted, unknownKind, outOfRange, tooShort}
-use Rattle.store.specs.Log.{places}
-use Rattle.kind.specs.Kind.{isKind}
-use Rattle.writer.specs.Types.{Record, Written}
+use Rattle.kind.specs.Kind.{isKind, room}
+use Rattle.writer.specs.Types.{Kind, Record, Written}
 use Rattle.schedule.specs.Record.{recordOf, recordInRange, recordLength, recordBytes, longest}
 
--- participants and logs 1 to 8, parties 0 to 8
+-- participants and logs 1 to 8, parties 0 to 8: the most that a header has room for
 abbrev pub isWritable : ℕ → Record → Bool
-isWritable place r = leb place longest && recordInRange places r
+isWritable place r = leb place longest && recordInRange (room Kind.Header) r
 
 -- the place after the record, where the buffer has room for that many bytes
 abbrev pub roomAnswer : ℕ → ℕ → Written

@@ -5,7 +5,6 @@ use number::TOO_SHORT;
 use number::UNKNOWN_KIND;
 use schedule::LONGEST;
 use schedule::Record;
-use store::LOGS;
 ghost use mathlib.Core.Path.{_≡_};
 ghost use mathlib.Core.Bool.{true};
 ghost use Prim.Native.Nat.{_+_, _≤_};
@@ -25,7 +24,7 @@ fn writable(place: usize, r: Record) -> bool
     ensures { λ b. ⌜ b ≡ isWritable place r ⌝ }
 {
     if place <= LONGEST {
-        r.in_range(LOGS as u32)
+        r.in_range(Kind::NARROW)
     } else {
         false
     }

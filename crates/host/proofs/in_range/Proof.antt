@@ -10,7 +10,6 @@ pub in-range-spec : {M : Type 1} → statement M
 in-range-spec =
     tie.close
     (tie.spec
-    (λ c. search needs)
     (λ c κs. search needs)
     (λ c κs. search needs)
     (λ c. between 1 (c .before .before .before .before .args .own) (c .before .before .before .before .args .n) (sym (c .before .between2 .ensures) ∙ c .if2 .taken) .0)

@@ -14,33 +14,43 @@ use Rattle.rules.specs.Run.{after}
 use Rattle.tail.specs.Tail.{tailOf}
 use Rattle.passes.specs.Pass.{stepsOf, freshOf}
 use Rattle.passes.proofs.Passed.{passed}
-use Rattle.marker.specs.Types.{Written}
-use Rattle.layout.specs.Tail.{tailBytes, tailLength}
-use Rattle.marker.specs.Report.{reportBytes}
-use Rattle.layout.specs.Low.{lowTail}
-use Rattle.marker.proofs.TailBytes.{tail-length, tail-low}
+use Rattle.passes.proofs.Begun.{run-places}
+use Rattle.form.specs.Form.{formOf, tailBytes, tailLength}
+use Rattle.layout.specs.Numbers.{tailFrom}
+use Rattle.form.proofs.Lengths.{tail-most}
+use Rattle.form.proofs.Fits.{form-fits}
+use Rattle.layout.proofs.Source.{tail-from}
+use Rattle.marker.specs.Types.{Written, Tail, Form}
+use Rattle.marker.specs.Report.{reportBytes, tailSize}
 use Rattle.marker.proofs.Ran.{answered, left, whole}
 use Rattle.marker.proofs.write_report.Statement.{statement}
 use Rattle.marker.proofs.write_report.Tie as tie
 
--- the tail that the steps leave
-tail-here : (c : tie.After-of) →
+-- how many bytes the tail has
+needed : (c : tie.After-length) → c .length .result ≡ tailSize (c .before .before .before .before .args .header)
+needed c = c .length .ensures ∙ ap tailLength (c .before .form-of .ensures)
+
+-- the tail that is put
+tail-here : (c : tie.After-run-fresh) →
     let args = c .before .before .before .before .before .before .before .before .before .args in
-    lowTail (c .of .result) ≡ tailBytes (tailOf (after (freshOf (args .header)) (stepsOf (readSchedule (args .schedule .now)))))
+    tailBytes (c .before .before .before .before .before .before .form-of .result) (tailFrom (c .run-fresh .last .1 .1 .1 .0) (c .run-fresh .result))
+    ≡ tailBytes (formOf (args .header .kind)) (tailOf (after (freshOf (args .header)) (stepsOf (readSchedule (args .schedule .now)))))
 tail-here c =
-    let start = c .before .before .before .before .before .before .before .before .before in
-    let args = start .args in
-    let p = passed (args .schedule .now) (args .header) (args .steps) (start .pre) in
-    ap lowTail (c .of .ensures ∙ ap tailOf (c .before .before .before .before .run-steps .ensures .0)) ∙ tail-low (args .header) (stepsOf (readSchedule (args .schedule .now))) (p .header) (p .ranged)
+    let args = c .before .before .before .before .before .before .before .before .before .args in
+    let steps = stepsOf (readSchedule (args .schedule .now)) in
+    ap₂ (λ (f : Form) (t : Tail). tailBytes f t) (c .before .before .before .before .before .before .form-of .ensures)
+    (ap₂ tailFrom (c .run-fresh .ensures .numbers) (c .run-fresh .ensures .store) ∙ tail-from (after (freshOf (args .header)) steps) (run-places (args .header) steps))
 
 pub write-report-spec : {M : Type 1} → statement M
 write-report-spec =
     tie.close
     (tie.spec
-    (λ c. let start = c .before .before in let p = passed (start .args .schedule .now) (start .args .header) (start .args .steps) (start .pre) in omega (arith, p .few, p .short))
-    (λ c. let start = c .before .before .before in let args = start .args in let m = args .steps in let t = lt-ltb (length (args .report .now)) (m + tailLength) (c .if1 .taken) in (sym (answered (args .schedule .now) (args .header) m (start .pre) (length (args .report .now)) ∙ ap (λ b. cond b (Written.Refused tooShort (m + tailLength)) (Written.Done (m + tailLength))) t), sym (left (args .schedule .now) (args .header) m (start .pre) (args .report .now) ∙ ap (λ b. cond b (args .report .now) (sets (args .report .now) 0 (reportBytes (args .header) (stepsOf (readSchedule (args .schedule .now)))))) t)))
-    (λ c κs. (c .before .before .before .before .pre, omega (arith, c .before .if1 .left)))
     (λ c κs. search needs)
-    (λ c κs. let args = c .before .before .before .before .before .before .before .before .before .args in omega (arith, ap length (tail-here c), tail-length (args .header) (stepsOf (readSchedule (args .schedule .now))), c .before .before .before .before .before .before .if1 .left, c .before .before .before .before .run-steps .kept))
+    (λ c κs. rw (c .form-of .ensures) (form-fits (c .before .before .before .args .header .kind)))
+    (λ c. let start = c .before .before .before .before in let p = passed (start .args .schedule .now) (start .args .header) (start .args .steps) (start .pre) in omega (arith, p .few, p .short, needed c, tail-most (formOf (start .args .header .kind)) (form-fits (start .args .header .kind))))
+    (λ c. let start = c .before .before .before .before .before in let args = start .args in let m = args .steps in let t = lt-ltb (length (args .report .now)) (m + tailSize (args .header)) (omega (arith, c .if1 .taken, needed (c .before))) in rw (needed (c .before)) (sym (answered (args .schedule .now) (args .header) m (start .pre) (length (args .report .now)) ∙ ap (λ b. cond b (Written.Refused tooShort (m + tailSize (args .header))) (Written.Done (m + tailSize (args .header)))) t), sym (left (args .schedule .now) (args .header) m (start .pre) (args .report .now) ∙ ap (λ b. cond b (args .report .now) (sets (args .report .now) 0 (reportBytes (args .header) (stepsOf (readSchedule (args .schedule .now)))))) t)))
+    (λ c κs. search needs)
+    (λ c κs. (c .before .before .before .before .before .before .before .before .pre, omega (arith, c .before .before .before .if1 .left), c .before .before .fresh .ensures))
+    (λ c κs. (rw (c .before .before .before .before .before .before .before .before .before .before .form-of .ensures) (form-fits (c .before .before .before .before .before .before .before .before .before .before .before .before .before .args .header .kind)), omega (arith, c .before .before .before .before .before .before .before .before .if1 .left, c .before .before .before .before .before .before .before .before .before .length .ensures, c .before .before .before .before .run-fresh .kept)))
     (λ c. search needs)
-    (λ c. let start = c .before .before .before .before .before .before .before .before .before .before .before .before in let args = start .args in let m = args .steps in let t = le-ltb (length (args .report .now)) (m + tailLength) (c .before .before .before .before .before .before .before .before .before .if1 .left) in (sym (answered (args .schedule .now) (args .header) m (start .pre) (length (args .report .now)) ∙ ap (λ b. cond b (Written.Refused tooShort (m + tailLength)) (Written.Done (m + tailLength))) t), c .before .before .put-tail .ensures .leaves ∙ ap₂ (λ (l z : List ℕ). sets l m z) (c .before .before .before .before .before .before .before .run-steps .ensures .1) (tail-here (c .before .before .before)) ∙ whole (args .schedule .now) (args .header) m (start .pre) (args .report .now) ∙ sym (left (args .schedule .now) (args .header) m (start .pre) (args .report .now) ∙ ap (λ b. cond b (args .report .now) (sets (args .report .now) 0 (reportBytes (args .header) (stepsOf (readSchedule (args .schedule .now)))))) t))))
+    (λ c. let start = c .before .before .before .before .before .before .before .before .before .before .before .before .before .before .before .before in let args = start .args in let m = args .steps in let t = le-ltb (length (args .report .now)) (m + tailSize (args .header)) (omega (arith, c .before .before .before .before .before .before .before .before .before .before .before .if1 .left, needed (c .before .before .before .before .before .before .before .before .before .before .before .before))) in (ap (λ k. Written.Done (m + k)) (needed (c .before .before .before .before .before .before .before .before .before .before .before .before)) ∙ sym (answered (args .schedule .now) (args .header) m (start .pre) (length (args .report .now)) ∙ ap (λ b. cond b (Written.Refused tooShort (m + tailSize (args .header))) (Written.Done (m + tailSize (args .header)))) t), c .before .before .put-tail .ensures .leaves ∙ ap₂ (λ (l z : List ℕ). sets l m z) (c .before .before .before .before .before .before .before .run-fresh .ensures .bytes) (tail-here (c .before .before .before .before .before .before .before)) ∙ whole (args .schedule .now) (args .header) m (start .pre) (args .report .now) ∙ sym (left (args .schedule .now) (args .header) m (start .pre) (args .report .now) ∙ ap (λ b. cond b (args .report .now) (sets (args .report .now) 0 (reportBytes (args .header) (stepsOf (readSchedule (args .schedule .now)))))) t))))

@@ -1,8 +1,9 @@
 -- `state::put_participants` meets its contract, case by case. Assumes nothing.
-use mathlib.Core.Path.{_≡_, refl}
+use mathlib.Core.Path.{refl}
 use Prim.Native.Nat.{_-_, _≤_}
 use native.Mathlib.Omega.{arith}
 use lib.ListN.{getD}
+use Rattle.store.specs.Log.{places}
 use Rattle.rules.specs.State.{waiting}
 use Rattle.state.specs.Types.{Release}
 use Rattle.state.specs.Fields.{withSites}
@@ -12,10 +13,10 @@ use Rattle.state.proofs.put_participants.Statement.{statement}
 use Rattle.state.proofs.put_participants.Tie as tie
 
 abbrev Inv-loop : tie.InvT-loop
-Inv-loop fields₀ sites i₀ fields i = (i ≤ 8) × UpTo withSites (λ (r : Release). r .sites) (λ j. getD sites j waiting) i fields₀ fields
+Inv-loop fields₀ sites i₀ fields i = (i ≤ places) × UpTo withSites (λ (r : Release). r .sites) (λ j. getD sites j waiting) i fields₀ fields
 
 abbrev μ-loop : tie.MeasureT-loop
-μ-loop fields₀ sites i₀ fields i = 8 - i
+μ-loop fields₀ sites i₀ fields i = places - i
 
 pub put-participants-spec : {M : Type 1} → statement M
 put-participants-spec =
@@ -31,4 +32,4 @@ put-participants-spec =
     (λ c. search needs)
     (λ c. search needs)
     (λ c. (omega arith, rw (c .put-participant .ensures) (one-participant _ _ _ _ _ (omega arith) refl (c .before .before .before .before .loop .inv .1))))
-    (λ c. all-put _ _ withSites (λ (r : Release). r .sites) _ 8 _ (c .before .loop .inv .0) (omega arith) (λ r h. h .sites) (c .before .loop .inv .1)))
+    (λ c. all-put _ _ withSites (λ (r : Release). r .sites) _ places _ (c .before .loop .inv .0) (omega arith) (λ r h. h .sites) (c .before .loop .inv .1)))

@@ -8,7 +8,6 @@ pub writable-spec : {M : Type 1} → statement M
 writable-spec =
     tie.close
     (tie.spec
-    (λ c. search needs)
     (λ c κs. search needs)
     (λ c. simp (← c .in-range .ensures, le-leb _ _ (c .before .if1 .taken)))
     (λ c. simp (lt-leb _ _ (c .if1 .left))))

@@ -1,20 +1,20 @@
--- `layout::read::calls` meets its contract: the loop fills the table, place by place. Assumes nothing.
+-- `layout::read::calls` meets its contract. Assumes nothing.
 use mathlib.Core.Path.{_≡_, refl}
 use Prim.Native.Nat.{suc, _-_, _≤_}
 use native.Mathlib.Omega.{arith}
 use lib.ListN.{length}
-use borrow.Author.Needs.{needs}
-use Rattle.store.specs.Log.{places}
 use Rattle.number.proofs.Table.{upTo, upTo-next, upTo-done}
-use Rattle.layout.specs.Read.{countAt}
+use Rattle.store.specs.Log.{places}
+use Rattle.form.specs.Form.{countAt}
+use borrow.Author.Needs.{needs}
 use Rattle.layout.proofs.read.calls.Statement.{statement}
 use Rattle.layout.proofs.read.calls.Tie as tie
 
 abbrev Inv-loop : tie.InvT-loop
-Inv-loop bytes l₀ p₀ l p = (p ≤ suc places) × (length l₀ ≡ suc places) × (l ≡ upTo p (countAt bytes) l₀)
+Inv-loop bytes form l₀ p₀ l p = (p ≤ suc places) × (length l₀ ≡ suc places) × (l ≡ upTo p (countAt form bytes) l₀)
 
 abbrev μ-loop : tie.MeasureT-loop
-μ-loop bytes l₀ p₀ l p = suc places - p
+μ-loop bytes form l₀ p₀ l p = suc places - p
 
 pub calls-spec : {M : Type 1} → statement M
 calls-spec =
@@ -23,7 +23,7 @@ calls-spec =
     Inv-loop
     μ-loop
     (λ c. search needs)
-    (λ c κs. (c .before .before .before .pre, omega arith))
+    (λ c κs. search needs)
     (λ c. search needs)
     (λ c. search needs)
     (λ c. search needs)

@@ -1,20 +1,20 @@
--- `layout::read::participants` meets its contract: the loop fills the table, place by place. Assumes nothing.
+-- `layout::read::participants` meets its contract. Assumes nothing.
 use mathlib.Core.Path.{_≡_, refl}
 use Prim.Native.Nat.{_-_, _≤_}
 use native.Mathlib.Omega.{arith}
 use lib.ListN.{length}
-use borrow.Author.Needs.{needs}
-use Rattle.store.specs.Log.{places}
 use Rattle.number.proofs.Table.{upTo, upTo-next, upTo-done}
-use Rattle.layout.specs.Read.{fieldsAt}
+use Rattle.store.specs.Log.{places}
+use Rattle.form.specs.Form.{participantAt}
+use borrow.Author.Needs.{needs}
 use Rattle.layout.proofs.read.participants.Statement.{statement}
 use Rattle.layout.proofs.read.participants.Tie as tie
 
 abbrev Inv-loop : tie.InvT-loop
-Inv-loop bytes l₀ i₀ l i = (i ≤ places) × (length l₀ ≡ places) × (l ≡ upTo i (fieldsAt bytes) l₀)
+Inv-loop bytes form l₀ i₀ l i = (i ≤ places) × (length l₀ ≡ places) × (l ≡ upTo i (participantAt form bytes) l₀)
 
 abbrev μ-loop : tie.MeasureT-loop
-μ-loop bytes l₀ i₀ l i = places - i
+μ-loop bytes form l₀ i₀ l i = places - i
 
 pub participants-spec : {M : Type 1} → statement M
 participants-spec =
@@ -23,10 +23,10 @@ participants-spec =
     Inv-loop
     μ-loop
     (λ c. search needs)
-    (λ c κs. (c .before .before .before .pre, omega arith))
+    (λ c κs. search needs)
     (λ c. search needs)
     (λ c. search needs)
     (λ c. search needs)
     (λ c. search needs)
-    (λ c. (omega arith, refl, upTo-next _ _ _ _ _ (c .before .before .loop .inv .2) (c .fields .ensures)))
-    (λ c. upTo-done (places) _ _ _ _ (c .before .loop .inv .0) (omega arith) refl (c .before .loop .inv .2)))
+    (λ c. (omega arith, refl, upTo-next _ _ _ _ _ (c .before .before .loop .inv .2) (c .participant .ensures)))
+    (λ c. upTo-done places _ _ _ _ (c .before .loop .inv .0) (omega arith) refl (c .before .loop .inv .2)))

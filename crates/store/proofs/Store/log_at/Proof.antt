@@ -3,7 +3,7 @@ use mathlib.Core.Path.{_≡_, sym}
 use native.Mathlib.Omega.{arith}
 use lib.ListN.{length, length-map, List·getD-eq-default}
 use borrow.Author.Needs.{needs}
-use Rattle.store.specs.Log.{empty}
+use Rattle.store.specs.Log.{places, empty}
 use Rattle.store.proofs.Store.log_at.Statement.{statement}
 use Rattle.store.proofs.Store.log_at.Tie as tie
 
@@ -14,4 +14,4 @@ log-at-spec =
     (λ c. search needs)
     (λ c. search needs)
     (λ c. search needs)
-    (λ c. let l : length (c .before .args .t1 .logs) ≡ 8 = simp length-map at (c .before .good .0 .1 .1 .0 .1 .0 .1) in sym (List·getD-eq-default (c .before .args .t1 .logs) empty (omega arith))))
+    (λ c. let l : length (c .before .args .t1 .logs) ≡ places = simp length-map at (c .before .good .0 .1 .1 .0 .1 .0 .1) in sym (List·getD-eq-default (c .before .args .t1 .logs) empty (omega arith))))

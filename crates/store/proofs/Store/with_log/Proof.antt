@@ -3,6 +3,7 @@ use mathlib.Core.Path.{_≡_}
 use native.Mathlib.Omega.{arith}
 use lib.ListN.{length, length-map}
 use lib.Seq.{set-out}
+use Rattle.store.specs.Log.{places}
 use borrow.Author.Needs.{needs}
 use Rattle.store.proofs.Store.with_log.Statement.{statement}
 use Rattle.store.proofs.Store.with_log.Tie as tie
@@ -14,4 +15,4 @@ with-log-spec =
     (λ c. search needs)
     (λ c. search needs)
     (λ c. search needs)
-    (λ c. let l : length (c .before .args .self .logs) ≡ 8 = simp length-map at (c .before .good .0 .1 .1 .0 .1 .0 .1) in rw (set-out (c .before .args .self .logs) (c .before .args .i) (c .before .args .l) (omega arith))))
+    (λ c. let l : length (c .before .args .self .logs) ≡ places = simp length-map at (c .before .good .0 .1 .1 .0 .1 .0 .1) in rw (set-out (c .before .args .self .logs) (c .before .args .i) (c .before .args .l) (omega arith))))

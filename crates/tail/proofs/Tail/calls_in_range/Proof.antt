@@ -1,9 +1,10 @@
 -- `tail::Tail::calls_in_range` meets its contract, case by case. Assumes nothing.
 use mathlib.Core.Path.{_≡_, refl, sym, _∙_}
 use mathlib.Core.Bool.{true}
-use Prim.Native.Nat.{_-_, _≤_}
+use Prim.Native.Nat.{suc, _-_, _≤_}
 use native.Mathlib.Omega.{arith}
 use lib.ListN.{getD}
+use Rattle.store.specs.Log.{places}
 use borrow.Author.Needs.{needs}
 use Rattle.number.specs.Table.{every}
 use Rattle.tail.specs.Tail.{countInRange}
@@ -12,10 +13,10 @@ use Rattle.tail.proofs.Tail.calls_in_range.Statement.{statement}
 use Rattle.tail.proofs.Tail.calls_in_range.Tie as tie
 
 abbrev Inv-loop : tie.InvT-loop
-Inv-loop self n p₀ p = (p ≤ 9) × (n ≡ self .n) × (every (λ j. countInRange (self .n) j (getD (self .calls) j 0)) p ≡ true)
+Inv-loop self n p₀ p = (p ≤ suc places) × (n ≡ self .n) × (every (λ j. countInRange (self .n) j (getD (self .calls) j 0)) p ≡ true)
 
 abbrev μ-loop : tie.MeasureT-loop
-μ-loop self n p₀ p = 9 - p
+μ-loop self n p₀ p = suc places - p
 
 loop-holds : tie.Need-loop-holds Inv-loop μ-loop
 unfolding every
@@ -32,8 +33,8 @@ calls-in-range-spec =
     (λ c. search needs)
     (λ c. search needs)
     (λ c κs. search needs)
-    (λ c. sym (every-fails _ 9 (c .before .before .before .before .loop .p) (c .before .before .before .loop-test .taken) (sym (c .before .count-in-range .ensures) ∙ c .if1 .left)))
+    (λ c. sym (every-fails _ (suc places) (c .before .before .before .before .loop .p) (c .before .before .before .loop-test .taken) (sym (c .before .count-in-range .ensures) ∙ c .if1 .left)))
     (λ c. search needs)
     (λ c. search needs)
     (λ c. (omega arith, refl, every-next _ (c .before .before .before .before .loop .p) (c .before .before .before .before .loop .inv .2) (sym (c .before .count-in-range .ensures) ∙ c .if1 .taken)))
-    (λ c. every-done _ 9 (c .before .loop .p) (c .before .loop .inv .0) (omega arith) (c .before .loop .inv .2)))
+    (λ c. every-done _ (suc places) (c .before .loop .p) (c .before .loop .inv .0) (omega arith) (c .before .loop .inv .2)))

@@ -12,8 +12,8 @@ in-range-spec =
     tie.close
     (tie.spec
     (λ c κs. search needs)
-    (λ c κs. omega (arith, header-size (headerOf (c .before .before .args .self)) (sym (c .before .in-range .ensures) ∙ c .if1 .taken)))
-    (λ c κs. omega (arith, header-size (headerOf (c .before .before .before .before .args .self)) (sym (c .before .before .before .in-range .ensures) ∙ c .before .before .if1 .taken)))
+    (λ c κs. omega (arith, header-size (headerOf (c .before .before .args .kind) (c .before .before .args .self)) (sym (c .before .in-range .ensures) ∙ c .if1 .taken)))
+    (λ c κs. omega (arith, header-size (headerOf (c .before .before .before .before .args .kind) (c .before .before .before .before .args .self)) (sym (c .before .before .before .in-range .ensures) ∙ c .before .before .if1 .taken)))
     (λ c κs. search needs)
     (λ c. simp (c .calls-in-range .ensures, sym (c .before .before .parties-in-range .ensures) ∙ c .before .if3 .taken, sym (c .before .before .before .before .messages-in-range .ensures) ∙ c .before .before .before .if2 .taken, sym (c .before .before .before .before .before .before .in-range .ensures) ∙ c .before .before .before .before .before .if1 .taken))
     (λ c. simp (sym (c .before .parties-in-range .ensures) ∙ c .if3 .left, sym (c .before .before .before .messages-in-range .ensures) ∙ c .before .before .if2 .taken, sym (c .before .before .before .before .before .in-range .ensures) ∙ c .before .before .before .before .if1 .taken))

@@ -8,6 +8,7 @@ use Rattle.tail.specs.Types.{Release, Report}
 use Rattle.tail.specs.Tail.{releaseOf}
 use Rattle.tail.specs.Single.{handed}
 use Rattle.tail.proofs.SingleCases.{handed-moved, handed-idle}
+use Rattle.kind.specs.declared.Kind.{Kind}
 use Rattle.tail.proofs.TailRange.{n-in-range}
 use Rattle.tail.proofs.Stepping.{can-count, same-outcome, same-report}
 use borrow.Author.Needs.{needs}
@@ -15,7 +16,7 @@ use Rattle.tail.proofs.Tail.stepped.Statement.{statement}
 use Rattle.tail.proofs.Tail.stepped.Tie as tie
 
 step-requires : tie.Need-step-requires
-step-requires c κs = (n-in-range (c .before .before .before .before .args .self) (c .before .before .before .before .pre .0) .1, c .before .before .before .before .pre .1, can-count (c .before .before .before .before .args .self) (simp length-map at (c .before .before .before .before .good .0 .1 .1 .1 .1 .1 .1 .0 .1 .0 .1)) (simp length-map at (c .before .before .before .before .good .0 .1 .1 .1 .1 .1 .1 .1 .1 .0 .1 .0 .1)) (c .before .before .before .before .pre .0) _ (c .before .before .fields-of .ensures ∙ ap fields (c .before .before .before .release .ensures)))
+step-requires c κs = (n-in-range Kind.Header (c .before .before .before .before .args .self) (c .before .before .before .before .pre .0) .1, c .before .before .before .before .pre .1, can-count (c .before .before .before .before .args .self) (simp length-map at (c .before .before .before .before .good .0 .1 .1 .1 .1 .1 .1 .0 .1 .0 .1)) (simp length-map at (c .before .before .before .before .good .0 .1 .1 .1 .1 .1 .1 .1 .1 .0 .1 .0 .1)) (c .before .before .before .before .pre .0) _ (c .before .before .fields-of .ensures ∙ ap fields (c .before .before .before .release .ensures)))
 
 returns : tie.Need-returns
 returns c =
