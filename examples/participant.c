@@ -1,5 +1,5 @@
-/* A host that steps one participant: through a commit, through a termination after a silent coordinator, and through one that the coordinator's
- * decision ends. */
+/* A host that steps one participant: through a commit, through a termination after a silent coordinator, through one that the coordinator's decision
+ * ends, and through one among twenty. */
 #include "cornus.h"
 
 #include <stdio.h>
@@ -10,6 +10,12 @@ struct participant {
     uint32_t state;
     uint32_t heard;
 };
+
+/* The heard mask stands in four bytes, low byte first. */
+static uint32_t heard_in(const uint8_t *out)
+{
+    return (uint32_t)out[1] | (uint32_t)out[2] << 8 | (uint32_t)out[3] << 16 | (uint32_t)out[4] << 24;
+}
 
 /* Steps the participant, keeps its next state and prints what came of the event. */
 static void step(struct participant *p, const char *event_name, uint32_t event, uint32_t detail, uint32_t record)
@@ -22,8 +28,8 @@ static void step(struct participant *p, const char *event_name, uint32_t event, 
         return;
     }
     p->state = out[0];
-    p->heard = out[1];
-    printf("%s: state %u, heard %u, sends %u\n", event_name, out[0], out[1], out[2]);
+    p->heard = heard_in(out);
+    printf("%s: state %u, heard %u, sends %u\n", event_name, out[0], (unsigned)p->heard, out[5]);
 }
 
 static void commit(void)
@@ -64,10 +70,28 @@ static void decision_while_terminating(void)
     step(&p, "log 2 answers commit", CORNUS_ANSWER, 2, CORNUS_RECORD_COMMIT);
 }
 
+static void termination_among_twenty(void)
+{
+    struct participant p = {.n = 20, .own = 20, .state = CORNUS_WAITING, .heard = 0};
+
+    printf("participant 20 of 20 terminates\n");
+    step(&p, "request, its vote is yes", CORNUS_REQUEST, CORNUS_VOTE_YES, 0);
+    step(&p, "log 20 answers yes", CORNUS_ANSWER, 20, CORNUS_RECORD_YES);
+    step(&p, "timeout", CORNUS_TIMEOUT, 0, 0);
+    for (uint32_t log = 1; log < p.own; log++) {
+        char event_name[32];
+
+        snprintf(event_name, sizeof event_name, "log %u answers yes", (unsigned)log);
+        step(&p, event_name, CORNUS_ANSWER, log, CORNUS_RECORD_YES);
+    }
+    step(&p, "log 20 answers commit", CORNUS_ANSWER, 20, CORNUS_RECORD_COMMIT);
+}
+
 int main(void)
 {
     commit();
     termination();
     decision_while_terminating();
+    termination_among_twenty();
     return 0;
 }

@@ -1,4 +1,4 @@
-/* One participant of a Cornus release, stepped by its host. All numbers are document 01's. */
+/* One participant of a Cornus release, stepped by its host; docs/HOST.md says how. All numbers are document 01's, as the requests amend it. */
 #ifndef CORNUS_H
 #define CORNUS_H
 
@@ -8,6 +8,12 @@
 #ifdef __cplusplus
 extern "C" {
 #endif
+
+/*
+ * The version of this header and of the archive, which must be the same. Version 1 had no such name, and its step, under the same function name, took
+ * n up to 8 and handed back three bytes. A host that needs the six bytes can test for them: #if CORNUS_VERSION < 2 is true where the name is missing.
+ */
+#define CORNUS_VERSION 2
 
 /* A participant's states. */
 #define CORNUS_WAITING 0          /* for the vote request */
@@ -23,7 +29,7 @@ extern "C" {
 
 /* Events. */
 #define CORNUS_REQUEST 1  /* vote request; detail: the vote */
-#define CORNUS_DECISION 2 /* the coordinator's decision, taken in states 3 and 4; detail: abort or commit, as records */
+#define CORNUS_DECISION 2 /* the coordinator's decision, taken in states 3 and 4; detail: its record, abort 2 or commit 3 */
 #define CORNUS_TIMEOUT 3
 #define CORNUS_CRASH 4
 #define CORNUS_RESTART 5
@@ -38,26 +44,33 @@ extern "C" {
 #define CORNUS_RECORD_ABORT 2
 #define CORNUS_RECORD_COMMIT 3
 
-/* Messages that a participant sends to the coordinator. */
+/* Message types. A decision is 4 or 5 as a message, and 3 or 2 as an event's detail, which has the number of its record: commit 3, abort 2. */
+#define CORNUS_MESSAGE_REQUEST 1
+#define CORNUS_MESSAGE_REPLY_YES 2
+#define CORNUS_MESSAGE_REPLY_ABORT 3
+#define CORNUS_MESSAGE_COMMIT 4
+#define CORNUS_MESSAGE_ABORT 5
+
+/* What a participant sends to the coordinator in a step. */
 #define CORNUS_SENDS_NOTHING 0
-#define CORNUS_SENDS_REPLY_YES 2
-#define CORNUS_SENDS_REPLY_ABORT 3
+#define CORNUS_SENDS_REPLY_YES CORNUS_MESSAGE_REPLY_YES
+#define CORNUS_SENDS_REPLY_ABORT CORNUS_MESSAGE_REPLY_ABORT
 
 /* What the step returns. */
-#define CORNUS_OK 0           /* three bytes written */
+#define CORNUS_OK 0           /* six bytes written */
 #define CORNUS_OUT_OF_RANGE 5 /* a number out of range; the buffer is untouched */
-#define CORNUS_TOO_SHORT 6    /* out_len below 3; the buffer is untouched */
+#define CORNUS_TOO_SHORT 6    /* out_len below 6; the buffer is untouched */
 #define CORNUS_NOT_DUE 7      /* the event is not due in this state; the buffer is untouched */
 
-/* How many bytes the step writes. */
-#define CORNUS_STEP_BYTES 3
+/* How many bytes the step writes, for every n. */
+#define CORNUS_STEP_BYTES 6
 
 /*
- * One step of participant `own` (1 to n) among n (1 to 8), in `state` with the mask of those `heard`: bit p - 1 means participant p.
+ * One step of participant `own` (1 to n) among n (1 to 32), in `state` with the mask of those `heard`: bit p - 1 means participant p.
  * The mask is 0 outside CORNUS_TERMINATING; there it has nobody beyond n, not `own`, and not all others.
  * Numbers that an event does not use are 0.
  *
- * Returns CORNUS_OK after writing out[0], the next state, out[1], the next heard mask, and out[2], the message sent or 0.
+ * Returns CORNUS_OK after writing out[0], the next state, out[1] to out[4], the next heard mask, low byte first, and out[5], the message sent or 0.
  * Otherwise it returns a refusal: first CORNUS_OUT_OF_RANGE, then CORNUS_NOT_DUE, then CORNUS_TOO_SHORT.
  * `out` points to `out_len` bytes that nobody else uses during the call, and is not null.
  */

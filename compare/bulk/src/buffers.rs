@@ -1,4 +1,5 @@
-//! Group 4, the run and the listing with lent buffers of every length, and the program `mark`.
+//! Group 4, the run and the listing with lent buffers of every length, and the program `mark`; group
+//! 14 is the same for wide schedules.
 
 use crate::difference::{schedule_words, Difference};
 use crate::figures::Numbers;
@@ -8,9 +9,9 @@ use crate::proved;
 use crate::random::Random;
 use crate::reduce;
 use crate::replay::Programs;
-use crate::schedules::{closed_at_the_end, random_schedule, schedule_of_length, LIMIT};
+use crate::schedules::{closed_at_the_end, group, random_schedule, schedule_of_length, LIMIT};
 use crate::whole::any_damaged;
-use second::Refusal;
+use second::{Form, Refusal};
 use std::fmt;
 
 /// How many schedules a job has, and for how many of them `mark` is run.
@@ -55,13 +56,18 @@ impl fmt::Display for BufferFigures {
     }
 }
 
-/// Compares run and listing on at least `cases` schedules.
-pub fn compare(programs: &Programs, seed: u64, cases: usize) -> Result<BufferFigures, Difference> {
+/// Compares run and listing on at least `cases` schedules of this form.
+pub fn compare(
+    programs: &Programs,
+    seed: u64,
+    cases: usize,
+    form: Form,
+) -> Result<BufferFigures, Difference> {
     let done = jobs::run_all(cases.div_ceil(BATCH), |job| {
-        let mut random = Random::new(seed, 4, job);
+        let mut random = Random::new(seed, group(4, form), job);
         let mut figures = BufferFigures::default();
         for at in 0..BATCH {
-            let schedule = any_schedule(&mut random, at);
+            let schedule = any_schedule(&mut random, form, at);
             figures.schedules += 1;
             compare_lengths(Entry::Run, &schedule, &mut figures.run)?;
             compare_lengths(Entry::Listing, &schedule, &mut figures.listing)?;
@@ -82,21 +88,24 @@ pub fn compare(programs: &Programs, seed: u64, cases: usize) -> Result<BufferFig
     Ok(whole)
 }
 
-fn any_schedule(random: &mut Random, at: usize) -> Vec<u8> {
+fn any_schedule(random: &mut Random, form: Form, at: usize) -> Vec<u8> {
     let steps = random.place(30);
     match at % 10 {
         0 if at == 0 => {
             let length = LIMIT - 2 + random.place(4);
-            schedule_of_length(random, length)
+            schedule_of_length(random, form, length)
         }
         1 => {
             let length = random.between(60, 600) as usize;
-            schedule_of_length(random, length)
+            schedule_of_length(random, form, length)
         }
         // Random steps close a log long before its step's number has five digits.
-        5 if at == 5 => closed_at_the_end(random.between(1, 8) as u8, LIMIT - random.place(3)),
-        2..=4 => any_damaged(random),
-        _ => random_schedule(random, steps),
+        5 if at == 5 => {
+            let n = random.between(1, form.most_participants());
+            closed_at_the_end(form, n, LIMIT - random.place(3))
+        }
+        2..=4 => any_damaged(random, form),
+        _ => random_schedule(random, form, steps),
     }
 }
 
@@ -133,13 +142,19 @@ fn list(schedule: &[u8], text: &mut [u8]) -> Result<usize, Refusal> {
     Ok(value)
 }
 
+/// The length of the tail by the schedule's first byte, whether or not it is accepted.
+fn tail_length(schedule: &[u8]) -> usize {
+    let kind = schedule.first().copied().unwrap_or(0);
+    Form::under(u32::from(kind)).tail_length()
+}
+
 /// The length that is needed; a refused schedule needs none, and its refusal must not depend on the
 /// buffer.
 fn needed(entry: Entry, schedule: &[u8]) -> usize {
     match entry {
         Entry::Run => match second::run(schedule, &mut []) {
             Err(Refusal { number: 6, value }) => value,
-            _ => 60,
+            _ => tail_length(schedule) + 1,
         },
         Entry::Listing => second::listing(schedule).len(),
     }
@@ -151,7 +166,9 @@ fn lengths(entry: Entry, schedule: &[u8]) -> Vec<usize> {
     if needed <= SHORT {
         return (0..=needed + 2).collect();
     }
-    let mut choice = vec![0, 1, 3, 58, 59, 60, 61, 255, 256, needed / 2];
+    let tail = tail_length(schedule);
+    let mut choice = vec![0, 1, 3, 255, 256, needed / 2];
+    choice.extend(tail - 1..=tail + 2);
     choice.extend(needed - 3..=needed + 2);
     choice.push(needed + 40_000);
     choice

@@ -79,6 +79,10 @@ fn record_words(record: &[u8]) -> String {
         [8, party] => format!("timeout of party {party}"),
         [9, party] => format!("crash of party {party}"),
         [10, party] => format!("restart of party {party}"),
+        [11, n, a, b, c, d] => {
+            let votes = u32::from_le_bytes([a, b, c, d]);
+            format!("wide header n {n} votes {votes:08X}")
+        }
         _ => format!("no record: {}", hexadecimal(record)),
     }
 }

@@ -1,6 +1,6 @@
 //! Group 6, the entries on single records: the writer, the reader and the two log entries.
 
-use crate::difference::{hexadecimal, packed_words, Difference};
+use crate::difference::{hexadecimal, Difference};
 use crate::figures::Numbers;
 use crate::jobs;
 use crate::lent::{lend, packed, Lent};
@@ -8,14 +8,28 @@ use crate::proved;
 use crate::random::Random;
 use crate::reduce;
 use crate::schedules::any_header;
-use second::{Header, Log, Performed};
+use second::{Form, Header, Log, Performed};
 use std::fmt;
 
 /// How many random cases a job has.
 const BATCH: usize = 10_000;
 
 /// Numbers of a record beyond the small ones.
-const EDGES: [u32; 6] = [127, 255, 256, 257, 65_536, u32::MAX];
+const EDGES: [u32; 13] = [
+    31,
+    32,
+    33,
+    127,
+    255,
+    256,
+    257,
+    65_536,
+    (1 << 31) - 1,
+    1 << 31,
+    (1 << 31) + 1,
+    u32::MAX - 1,
+    u32::MAX,
+];
 /// Places to write at; from 32,769 on they are out of range.
 const PLACES: [u32; 9] = [0, 1, 2, 32_766, 32_767, 32_768, 32_769, 32_770, u32::MAX];
 /// Buffers of the greatest places end about here.
@@ -23,7 +37,26 @@ const GREATEST: usize = 32_768;
 /// Added to the record that a log entry answers where the call wrote the log's first record.
 const WROTE: u32 = 4;
 /// Bytes for the reader.
-const BYTES: [u8; 15] = [0, 1, 2, 3, 4, 5, 6, 7, 8, 9, 10, 11, 127, 128, 255];
+const BYTES: [u8; 19] = [
+    0, 1, 2, 3, 4, 5, 6, 7, 8, 9, 10, 11, 12, 31, 32, 33, 127, 128, 255,
+];
+const SHORT: [&[u8]; 3] = [&BYTES; 3];
+/// Bytes for n and for the vote mask of a wide header.
+const WIDE_N: [u8; 9] = [0, 1, 8, 9, 16, 31, 32, 33, 255];
+const WIDE_VOTES: &[u8] = &[0, 1, 127, 128, 255];
+/// A wide header and one byte more.
+const WIDE: [&[u8]; 7] = [
+    &[11],
+    &WIDE_N,
+    WIDE_VOTES,
+    WIDE_VOTES,
+    WIDE_VOTES,
+    WIDE_VOTES,
+    &[0, 2, 11],
+];
+/// Kinds that the reader is told as a header's; the last one is none.
+const TOLD_KINDS: [u32; 3] = [1, 11, 2];
+const TOLD_N: [u32; 14] = [0, 1, 2, 3, 4, 5, 6, 7, 8, 9, 16, 31, 32, 33];
 
 #[derive(Clone, Copy, Default)]
 pub struct EntryFigures {
@@ -75,7 +108,7 @@ pub fn compare(seed: u64, cases: usize) -> Result<EntryFigures, Difference> {
 
 fn write_every(place: u32) -> Result<EntryFigures, Difference> {
     let mut figures = EntryFigures::default();
-    for kind in (0..=12).chain([255, 256, 258, 65_539, u32::MAX]) {
+    for kind in (0..=13).chain([255, 256, 258, 267, 65_539, u32::MAX]) {
         for first in (0..=10).chain(EDGES) {
             for second in (0..=10).chain(EDGES) {
                 write_lengths(place, [kind, first, second], &mut figures.writer)?;
@@ -88,7 +121,7 @@ fn write_every(place: u32) -> Result<EntryFigures, Difference> {
 /// Buffers that end before, within and after the record.
 fn write_lengths(place: u32, record: [u32; 3], numbers: &mut Numbers) -> Result<(), Difference> {
     let end = GREATEST.min(place as usize);
-    for length in [0].into_iter().chain(end..=end + 4) {
+    for length in [0].into_iter().chain(end..=end + 7) {
         compare_write(length, place, record, numbers)?;
     }
     Ok(())
@@ -139,10 +172,10 @@ fn write_both(length: usize, place: u32, record: [u32; 3]) -> (Lent, Lent) {
     (by_proved, by_second)
 }
 
-/// Every string of up to three bytes, after each of these headers.
+/// Every string of up to three bytes, and those of wide headers, after each of these headers.
 fn read_every(headers: &[Option<Header>]) -> Result<EntryFigures, Difference> {
     let mut figures = EntryFigures::default();
-    for bytes in every_string() {
+    for bytes in [every_string(&SHORT), every_string(&WIDE)].concat() {
         for header in headers {
             compare_read(&bytes, *header, &mut figures.reader)?;
         }
@@ -150,24 +183,32 @@ fn read_every(headers: &[Option<Header>]) -> Result<EntryFigures, Difference> {
     Ok(figures)
 }
 
-/// No header, and for each n from 0 to 9 headers with votes within and beyond n.
+/// No header, and for each kind and n headers with votes within and beyond n.
 fn headers() -> Vec<Vec<Option<Header>>> {
     let mut headers = vec![vec![None]];
-    for n in 0..=9 {
-        let full = (1_u32 << n) - 1;
-        let votes = [0, 1, full / 2, full, full + 1, 255, 256, u32::MAX];
-        headers.push(votes.map(|votes| Some(Header { n, votes })).to_vec());
+    for kind in TOLD_KINDS {
+        for n in TOLD_N {
+            // The votes of 33 would take a bit more than there is.
+            let full = u32::MAX.checked_shr(32 - n.min(32)).unwrap_or(0);
+            let beyond = full.wrapping_add(1);
+            let votes = [0, 1, full / 2, full, beyond, 255, 256, u32::MAX];
+            headers.push(votes.map(|votes| Some(Header { kind, n, votes })).to_vec());
+        }
     }
     headers
 }
 
-fn every_string() -> Vec<Vec<u8>> {
+/// Every string, of any length, that has at each place one of the bytes given for that place.
+fn every_string(choices: &[&[u8]]) -> Vec<Vec<u8>> {
     let mut strings = vec![Vec::new()];
     let mut start = 0;
-    for _ in 0..3 {
+    for choice in choices {
         let end = strings.len();
         for at in start..end {
-            let longer = BYTES.map(|byte| [&strings[at][..], &[byte]].concat());
+            let longer = choice
+                .iter()
+                .map(|byte| [&strings[at][..], &[*byte]].concat());
+            let longer: Vec<Vec<u8>> = longer.collect();
             strings.extend(longer);
         }
         start = end;
@@ -182,26 +223,42 @@ fn compare_read(
 ) -> Result<(), Difference> {
     let second = read_second(bytes, before);
     if proved::read_record(bytes, before) == second {
-        numbers.note((second >> 32) as u32);
+        numbers.note(read_number(second));
         return Ok(());
     }
     let differs = |bytes: &[u8]| proved::read_record(bytes, before) != read_second(bytes, before);
     let smallest = reduce::schedule(bytes, differs);
     Err(Difference {
         input: format!("reader, bytes {}, told {before:?}", hexadecimal(&smallest)),
-        proved: packed_words(proved::read_record(&smallest, before)),
-        second: packed_words(read_second(&smallest, before)),
+        proved: read_words(proved::read_record(&smallest, before)),
+        second: read_words(read_second(&smallest, before)),
     })
 }
 
 /// The second program's answer, packed as the proved side packs it.
 fn read_second(bytes: &[u8], before: Option<Header>) -> u64 {
-    match second::read_record(bytes, before) {
-        Ok((record, length)) => {
-            let numbers = [record.kind, record.first, record.second, length as u32];
-            u64::from(packed_bytes(numbers))
-        }
-        Err(refusal) => packed(Err(refusal)),
+    let (three, last) = match second::read_record(bytes, before) {
+        Ok((record, length)) => ([record.kind, record.first, length as u32], record.second),
+        Err(refusal) => ([0, refusal.number, 0], refusal.value as u32),
+    };
+    let [a, b, c] = three;
+    u64::from(packed_bytes([a, b, c, 0])) | u64::from(last) << 24
+}
+
+/// The number of the refusal in a reader's answer, or 0.
+fn read_number(answer: u64) -> u32 {
+    match answer & 0xFF {
+        0 => (answer >> 8) as u32 & 0xFF,
+        _ => 0,
+    }
+}
+
+fn read_words(answer: u64) -> String {
+    let [kind, first, length, ..] = answer.to_le_bytes();
+    let last = answer >> 24;
+    match kind {
+        0 => format!("refused {first} at {last} (hexadecimal {answer:014X})"),
+        _ => format!("kind {kind}, numbers {first} and {last}, {length} bytes"),
     }
 }
 
@@ -214,20 +271,33 @@ fn packed_bytes(numbers: [u32; 4]) -> u32 {
 fn random_records(random: &mut Random) -> Result<EntryFigures, Difference> {
     let mut figures = EntryFigures::default();
     for _ in 0..BATCH {
-        let length = random.place(7);
-        let bytes: Vec<u8> = (0..length).map(|_| random.small_byte()).collect();
+        let bytes = any_bytes(random);
         let header = Header {
-            n: random.number(),
-            votes: random.number(),
+            kind: random.pick(&TOLD_KINDS),
+            n: random.wide_number(),
+            votes: random.wide_number(),
         };
-        let in_range = any_header(random);
-        let before = random.pick(&[None, Some(in_range), Some(header)]);
+        let narrow = any_header(random, Form::Narrow);
+        let wide = any_header(random, Form::Wide);
+        let before = random.pick(&[None, Some(narrow), Some(wide), Some(header)]);
         compare_read(&bytes, before, &mut figures.reader)?;
-        let record = [random.below(13), random.number(), random.number()];
-        let (length, place) = (random.place(12), random.number());
+        let numbers = [random.wide_number(), random.wide_number()];
+        let record = [random.below(14), numbers[0], numbers[1]];
+        let (length, place) = (random.place(15), random.number());
         compare_write(length, place, record, &mut figures.writer)?;
     }
     Ok(figures)
+}
+
+/// Bytes for the reader; one in four begins as a wide header does.
+fn any_bytes(random: &mut Random) -> Vec<u8> {
+    let length = random.place(8);
+    let mut bytes: Vec<u8> = (0..length).map(|_| random.small_byte()).collect();
+    if length > 1 && random.one_in(4) {
+        bytes[0] = 11;
+        bytes[1] = random.pick(&WIDE_N);
+    }
+    bytes
 }
 
 /// All 64 combinations of a log's first and last record and the record of the call.

@@ -1,12 +1,8 @@
 //! What the compared cases amount to, so that nobody needs to trust that they mean something.
 
-use crate::schedules::records;
-use second::{report, single_step, Header, Refusal, Tail};
+use crate::schedules::{records, split_header};
+use second::{report, take_step, Form, Header, Record, Refusal, Tail};
 use std::fmt;
-
-/// The length of a report's tail, and the place of the counts of calls in it.
-const TAIL: usize = 59;
-const COUNTS: usize = 41;
 
 /// How often each refusal number was answered; 0 is no refusal.
 #[derive(Clone, Copy, Default)]
@@ -102,42 +98,35 @@ pub struct ScheduleFigures {
     ended_by_decision: EndedByDecision,
 }
 
-/// Terminations that came to a decision.
+/// Terminations that came to a decision: all of them, those under n = 8 and those under n = 32.
 #[derive(Clone, Copy, Default)]
 struct Ended {
-    commit: u64,
-    abort: u64,
-    commit_of_eight: u64,
-    abort_of_eight: u64,
+    commit: [u64; 3],
+    abort: [u64; 3],
 }
 
 impl Ended {
-    fn note(&mut self, n: u8, outcome: u8) {
-        let eight = u64::from(n == 8);
-        if outcome == report::COMMIT {
-            self.commit += 1;
-            self.commit_of_eight += eight;
-        } else {
-            self.abort += 1;
-            self.abort_of_eight += eight;
-        }
+    fn note(&mut self, n: u32, outcome: u8) {
+        let counts = match outcome {
+            report::COMMIT => &mut self.commit,
+            _ => &mut self.abort,
+        };
+        add(counts, &[true, n == 8, n == 32].map(u64::from));
     }
 
     fn add(&mut self, other: &Ended) {
-        self.commit += other.commit;
-        self.abort += other.abort;
-        self.commit_of_eight += other.commit_of_eight;
-        self.abort_of_eight += other.abort_of_eight;
+        add(&mut self.commit, &other.commit);
+        add(&mut self.abort, &other.abort);
     }
 }
 
 impl fmt::Display for Ended {
     fn fmt(&self, to: &mut fmt::Formatter) -> fmt::Result {
-        write!(
-            to,
-            "{} commit ({} under n = 8), {} abort ({} under n = 8)",
-            self.commit, self.commit_of_eight, self.abort, self.abort_of_eight
-        )
+        let words = |[all, eight, thirty_two]: [u64; 3], decision: &str| {
+            format!("{all} {decision} ({eight} under n = 8, {thirty_two} under n = 32)")
+        };
+        let (commit, abort) = (words(self.commit, "commit"), words(self.abort, "abort"));
+        write!(to, "{commit}, {abort}")
     }
 }
 
@@ -159,7 +148,7 @@ impl EndedByDecision {
         let terminating = before.participants[participant as usize - 1].state == 4;
         let outcome = report::outcome(byte);
         if terminating && (outcome == report::COMMIT || outcome == report::ABORT) {
-            ended.note(before.n as u8, outcome);
+            ended.note(before.n, outcome);
         }
     }
 
@@ -187,20 +176,21 @@ impl ScheduleFigures {
     fn note_accepted(&mut self, schedule: &[u8], report: &[u8]) {
         self.numbers.note(0);
         self.longest = self.longest.max(schedule.len() as u64);
-        let (bytes, tail) = report.split_at(report.len() - TAIL);
-        let calls = tail[COUNTS..].chunks_exact(2);
-        let most = calls.map(|count| u16::from_le_bytes([count[0], count[1]]));
-        self.most_calls = self.most_calls.max(most.max().unwrap_or(0));
+        let (header, steps) = split_header(schedule);
+        let form = Form::under(header.kind);
+        let (bytes, tail) = report.split_at(report.len() - form.tail_length());
+        let calls = Tail::from_bytes(form, tail).calls;
+        self.most_calls = calls.into_iter().fold(self.most_calls, u16::max);
         let has = |outcome| bytes.iter().any(|byte| report::outcome(*byte) == outcome);
         self.with_commit += u64::from(has(report::COMMIT));
         self.with_abort += u64::from(has(report::ABORT));
-        for (record, byte) in records(&schedule[3..]).zip(bytes) {
-            self.note_step(schedule[1], record, *byte);
+        for (record, byte) in records(steps).zip(bytes) {
+            self.note_step(header.n, record, *byte);
         }
-        self.note_delivered(schedule, bytes);
+        self.note_delivered(header, steps, bytes);
     }
 
-    fn note_step(&mut self, n: u8, record: &[u8], byte: u8) {
+    fn note_step(&mut self, n: u32, record: &[u8], byte: u8) {
         self.report_bytes.note(byte);
         let outcome = report::outcome(byte);
         self.due[usize::from(record[0])] += u64::from(outcome != report::IDLE);
@@ -217,23 +207,25 @@ impl ScheduleFigures {
 
     /// Notes the decisions delivered in a termination. The steps are taken once more for their
     /// states, and only where a delivered decision was reported.
-    fn note_delivered(&mut self, schedule: &[u8], bytes: &[u8]) {
-        let mut steps = records(&schedule[3..]).zip(bytes);
+    fn note_delivered(&mut self, header: Header, steps: &[u8], bytes: &[u8]) {
         let reported = |(record, byte): (&[u8], &u8)| {
             matches!(record, [3 | 4, 4 | 5, _]) && *byte > report::MOVED
         };
-        if !steps.any(reported) {
+        if !records(steps).zip(bytes).any(reported) {
             return;
         }
-        let (n, votes) = (u32::from(schedule[1]), u32::from(schedule[2]));
-        let mut tail = Tail::fresh(Header { n, votes });
-        for (record, byte) in records(&schedule[3..]).zip(bytes) {
+        let mut tail = Tail::fresh(header);
+        for (record, byte) in records(steps).zip(bytes) {
             let number = |at| record.get(at).map_or(0, |number| u32::from(*number));
-            let step = [number(0), number(1), number(2)];
-            self.ended_by_decision.note(&tail, step, *byte);
-            if let Ok((next, _)) = single_step(&tail, step[0], step[1], step[2]) {
-                tail = next;
-            }
+            let (kind, first, second) = (number(0), number(1), number(2));
+            self.ended_by_decision
+                .note(&tail, [kind, first, second], *byte);
+            let step = Record {
+                kind,
+                first,
+                second,
+            };
+            take_step(&mut tail, step);
         }
     }
 

@@ -8,21 +8,25 @@ use crate::lent::pattern;
 use crate::proved;
 use crate::random::Random;
 use crate::reduce;
+use crate::schedules::full;
 use std::fmt;
 
 /// How many random cases a job has.
 const BATCH: usize = 50_000;
 
 /// Heard masks outside state 4, where all but 0 are out of range.
-const FEW_MASKS: [u32; 6] = [0, 1, 2, 128, 255, 256];
+const FEW_MASKS: [u32; 7] = [0, 1, 2, 128, 255, 256, 1 << 31];
 /// Heard masks in state 4 beyond one byte.
-const WIDE_MASKS: [u32; 4] = [256, 257, 65_536, u32::MAX];
+const WIDE_MASKS: [u32; 7] = [256, 257, 510, 511, 65_536, 1 << 31, u32::MAX];
+/// The bytes that come back, and the place of the message type among them.
+const NEEDED: usize = 6;
+const MESSAGE: usize = 5;
 
 /// n, own number, state, heard mask, event, detail and record.
 type HostNumbers = [u32; 7];
 
 /// The number that the entry returned, and the buffer and the bytes beyond it.
-type Stepped = (u32, [u8; 8]);
+type Stepped = (u32, [u8; 10]);
 
 #[derive(Clone, Copy, Default)]
 pub struct HostFigures {
@@ -48,7 +52,7 @@ impl HostFigures {
     fn note_step(&mut self, (number, bytes): &Stepped) {
         if *number == 0 {
             self.reached[usize::from(bytes[0])] += 1;
-            self.messages += u64::from(bytes[2] != 0);
+            self.messages += u64::from(bytes[MESSAGE] != 0);
         }
     }
 }
@@ -89,13 +93,14 @@ fn small_numbers(n: u32, own: u32) -> Result<HostFigures, Difference> {
             for heard in (0..=255).chain(WIDE_MASKS) {
                 // The length that is needed, and another that depends on the mask, so that all
                 // lengths occur with every event.
-                let other = heard as usize % 5;
-                small_events([n, own, state, heard], &[3, other], &mut figures)?;
+                let other = heard as usize % 8;
+                small_events([n, own, state, heard], &[NEEDED, other], &mut figures)?;
             }
             continue;
         }
         for heard in FEW_MASKS {
-            small_events([n, own, state, heard], &[0, 1, 2, 3, 4], &mut figures)?;
+            let lengths = [0, 1, 2, 3, 4, 5, NEEDED, 7];
+            small_events([n, own, state, heard], &lengths, &mut figures)?;
         }
     }
     Ok(figures)
@@ -126,9 +131,9 @@ fn random_numbers(random: &mut Random) -> Result<HostFigures, Difference> {
     for _ in 0..BATCH {
         let mut numbers = likely_numbers(random);
         if random.one_in(2) {
-            numbers[random.place(7)] = random.number();
+            numbers[random.place(7)] = random.wide_number();
         }
-        let length = random.place(6);
+        let length = random.place(9);
         let stepped = agreed(numbers, length)?;
         figures.random.note(stepped.0);
         figures.note_step(&stepped);
@@ -138,15 +143,18 @@ fn random_numbers(random: &mut Random) -> Result<HostFigures, Difference> {
 
 /// Numbers that are in range more often than not.
 fn likely_numbers(random: &mut Random) -> HostNumbers {
-    let n = random.between(1, 8);
-    let own = random.between(1, n);
+    let n = random.pick(&[1, 2, 3, 4, 5, 6, 7, 8, 8, 9, 16, 31, 31, 32, 32, 32, 33]);
+    let own = match random.below(16) {
+        0 => random.pick(&[0, n + 1, 33]),
+        _ => random.between(1, n),
+    };
+    let log = random.between(1, n);
     let state = random.pick(&[0, 1, 2, 3, 4, 4, 4, 5, 6, 7, 8, 9]);
     let heard = match state {
-        4 => random.below(1 << n) & !(1 << (own - 1)),
+        4 => likely_heard(random, n, own, log),
         _ => 0,
     };
     let event = random.between(1, 6);
-    let log = random.between(1, n);
     let (detail, record) = match event {
         1 => (random.below(2), 0),
         2 => (random.between(2, 3), 0),
@@ -154,6 +162,23 @@ fn likely_numbers(random: &mut Random) -> HostNumbers {
         _ => (0, 0),
     };
     [n, own, state, heard, event, detail, record]
+}
+
+/// A heard mask that is in range more often than not, mostly with just that log left to hear.
+fn likely_heard(random: &mut Random, n: u32, own: u32, log: u32) -> u32 {
+    let others = full(n.min(32)) & !bit(own);
+    let any = random.between(0, u32::MAX);
+    match random.below(8) {
+        0 => others,
+        1 => any,
+        2 | 3 => any & others,
+        _ => others & !bit(log),
+    }
+}
+
+/// The mask of this participant alone; of a number that no participant has, none.
+fn bit(participant: u32) -> u32 {
+    1_u32.checked_shl(participant.wrapping_sub(1)).unwrap_or(0)
 }
 
 /// What both sides answer, or the difference.
@@ -166,7 +191,7 @@ fn agreed(numbers: HostNumbers, length: usize) -> Result<Stepped, Difference> {
     Ok(second)
 }
 
-fn fresh_buffer() -> [u8; 8] {
+fn fresh_buffer() -> [u8; 10] {
     std::array::from_fn(pattern)
 }
 

@@ -7,8 +7,8 @@ use crate::reduce;
 use crate::replay::{frames, Printed, Programs};
 use second::Refusal;
 
-/// The greatest report: a step for each byte after the header, and the tail.
-const REPORT: usize = 32_824;
+/// The greatest report: a step for each byte after a wide header, and the tail.
+const REPORT: usize = 33_082;
 
 /// How many schedules are shown where it takes several to make a difference.
 const SHOWN: usize = 5;

@@ -21,16 +21,18 @@ mod replay;
 mod schedules;
 mod states;
 mod steps;
+mod terminations;
 mod whole;
 
 use difference::Difference;
 use replay::Programs;
+use second::Form;
 use std::env;
 use std::fmt::Display;
 use std::process::ExitCode;
 
-const USAGE: &str =
-    "usage: bulk quick | bulk long CASES [SEED] | bulk frames short|longest|terminations";
+const USAGE: &str = "usage: bulk quick | bulk long CASES [SEED] | \
+    bulk frames short|longest|terminations|short-wide|terminations-wide";
 const SEED: u64 = 20_260_101;
 /// How many random schedules the quick form has.
 const QUICK: usize = 300_000;
@@ -88,24 +90,53 @@ fn asked(words: &[String]) -> Option<(usize, u64)> {
     }
 }
 
+/// The numbers of schedules and of further calls compared; or the group that has a difference.
+type Compared = Result<(u64, u64), (&'static str, Difference)>;
+
 /// Runs every group; the further counts are in proportion to that of the random schedules.
-fn compare(cases: usize, seed: u64) -> Result<(u64, u64), (&'static str, Difference)> {
-    let programs = Programs::find();
-    let random = shown("1, random schedules", whole::random(&programs, seed, cases))?;
-    let every = shown("2, every short schedule", whole::every(&programs))?;
-    let damaged = whole::damaged(&programs, seed, cases / 2);
+fn compare(cases: usize, seed: u64) -> Compared {
+    let narrow = compare_narrow(cases, seed)?;
+    let wide = compare_wide(cases / 3, seed)?;
+    Ok((narrow.0 + wide.0, narrow.1 + wide.1))
+}
+
+/// The groups of narrow schedules, and of the entries that know no header.
+fn compare_narrow(cases: usize, seed: u64) -> Compared {
+    let (programs, form) = (Programs::find(), Form::Narrow);
+    let random = whole::random(&programs, seed, cases, form);
+    let random = shown("1, random schedules", random)?;
+    let every = shown("2, every short schedule", whole::every(&programs, form))?;
+    let damaged = whole::damaged(&programs, seed, cases / 2, form);
     let damaged = shown("3, damaged schedules", damaged)?;
-    let buffers = buffers::compare(&programs, seed, cases / 150);
+    let buffers = buffers::compare(&programs, seed, cases / 150, form);
     let buffers = shown("4, run and listing into lent buffers", buffers)?;
     let host = shown("5, the host entry", host::compare(seed, cases * 10))?;
-    let entries = shown(
-        "6, writer, reader and log entries",
-        entries::compare(seed, cases),
-    )?;
+    let entries = entries::compare(seed, cases);
+    let entries = shown("6, writer, reader and log entries", entries)?;
     let steps = shown("7, the single step", steps::compare(seed, cases / 100))?;
     let schedules = random.schedules() + every.schedules() + damaged.schedules();
     let calls = buffers.calls() + host.calls() + entries.calls() + steps.calls();
     Ok((schedules, calls))
+}
+
+/// The groups of wide schedules.
+fn compare_wide(cases: usize, seed: u64) -> Compared {
+    let (programs, form) = (Programs::find(), Form::Wide);
+    let random = whole::random(&programs, seed, cases, form);
+    let random = shown("11, random wide schedules", random)?;
+    let every = whole::every(&programs, form);
+    let every = shown("12, every short wide schedule", every)?;
+    let damaged = whole::damaged(&programs, seed, cases / 2, form);
+    let damaged = shown("13, damaged wide schedules", damaged)?;
+    let buffers = buffers::compare(&programs, seed, cases / 150, form);
+    let buffers = shown(
+        "14, run and listing of wide schedules into lent buffers",
+        buffers,
+    )?;
+    let steps = steps::compare_runs(seed, cases / 300, form);
+    let steps = shown("17, the single step of wide states", steps)?;
+    let schedules = random.schedules() + every.schedules() + damaged.schedules();
+    Ok((schedules, buffers.calls() + steps.calls()))
 }
 
 /// Prints the group's figures, or names the group that has the difference.

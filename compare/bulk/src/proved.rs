@@ -74,9 +74,12 @@ pub fn write_record(buffer: &mut [u8], place: u32, numbers: [u32; 3]) -> u64 {
     }
 }
 
+/// The answer's bytes, lowest first, are the record's kind, its first number and its length, and its
+/// second number in four; or 0, the refusal's number, 0, and its place in four.
 pub fn read_record(bytes: &[u8], before: Option<Header>) -> u64 {
+    // The number of the told header's kind says that there is one.
     let (told, n, votes) = match before {
-        Some(header) => (1, header.n, header.votes),
+        Some(header) => (header.kind, header.n, header.votes),
         None => (0, 0, 0),
     };
     unsafe { compare_read(bytes.as_ptr(), bytes.len(), told, n, votes) }
@@ -101,7 +104,8 @@ pub fn log_entry(numbers: [u32; 3]) -> u32 {
     unsafe { compare_log(numbers[0], numbers[1], numbers[2]) }
 }
 
-/// The three numbers are the step's kind and its two numbers.
+/// The state has 320 bytes whatever its n, and the three numbers are the step's kind and its two
+/// numbers.
 pub fn single_step(state: &mut [u8], numbers: [u32; 3]) -> u32 {
     let [kind, first, second] = numbers;
     unsafe { compare_single_step(state.as_mut_ptr(), state.len(), kind, first, second) }

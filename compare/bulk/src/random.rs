@@ -14,6 +14,21 @@ const EDGES: [u32; 10] = [
     u32::MAX,
 ];
 
+/// Numbers about the greatest n of either header, and at the ends of a mask of four bytes.
+const WIDE_EDGES: [u32; 11] = [
+    7,
+    8,
+    9,
+    31,
+    32,
+    33,
+    (1 << 31) - 1,
+    1 << 31,
+    (1 << 31) + 1,
+    u32::MAX - 1,
+    u32::MAX,
+];
+
 /// The generator SplitMix64.
 pub struct Random {
     state: u64,
@@ -36,14 +51,19 @@ impl Random {
         mixed ^ (mixed >> 31)
     }
 
+    /// A number from 0 to `bound` - 1, where the bound is 2^32 at most.
+    fn scaled(&mut self, bound: u64) -> u32 {
+        (((self.next() >> 32) * bound) >> 32) as u32
+    }
+
     /// A number from 0 to `bound` - 1.
     pub fn below(&mut self, bound: u32) -> u32 {
-        (((self.next() >> 32) * u64::from(bound)) >> 32) as u32
+        self.scaled(u64::from(bound))
     }
 
     /// A number from `low` to `high`.
     pub fn between(&mut self, low: u32, high: u32) -> u32 {
-        low + self.below(high - low + 1)
+        low + self.scaled(u64::from(high - low) + 1)
     }
 
     /// A place or length from 0 to `bound` - 1.
@@ -78,6 +98,15 @@ impl Random {
             1 => self.next() as u32,
             2 => self.below(256),
             _ => self.below(11),
+        }
+    }
+
+    /// A number as `number` gives it, or one about the limits of wide schedules.
+    pub fn wide_number(&mut self) -> u32 {
+        match self.below(4) {
+            0 => self.pick(&WIDE_EDGES),
+            1 => self.below(34),
+            _ => self.number(),
         }
     }
 }

@@ -35,7 +35,7 @@ pub fn schedule(bytes: &[u8], differs: impl Fn(&[u8]) -> bool) -> Vec<u8> {
 /// Leaves out each participant that can be missed.
 fn fewer_participants(bytes: &[u8], differs: impl Fn(&[u8]) -> bool) -> Vec<u8> {
     let mut bytes = bytes.to_vec();
-    for gone in (1..=8).rev() {
+    for gone in (1..=32).rev() {
         let fewer = without_participant(&bytes, gone);
         if fewer != bytes && differs(&fewer) {
             bytes = fewer;
@@ -51,8 +51,13 @@ fn without_participant(bytes: &[u8], gone: u8) -> Vec<u8> {
     for record in records(bytes) {
         match *record {
             [1, n, votes] if n >= gone => {
-                let below = (1 << (gone - 1)) - 1;
-                fewer.extend([1, n - 1, votes & below | votes >> 1 & !below]);
+                let votes = without_bit(u32::from(votes), gone);
+                fewer.extend([1, n - 1, votes as u8]);
+            }
+            [11, n, a, b, c, d] if n >= gone => {
+                let votes = without_bit(u32::from_le_bytes([a, b, c, d]), gone);
+                fewer.extend([11, n - 1]);
+                fewer.extend(votes.to_le_bytes());
             }
             [3..=5, _, participant] if participant == gone => (),
             [kind @ 3..=5, message, participant] => {
@@ -66,6 +71,12 @@ fn without_participant(bytes: &[u8], gone: u8) -> Vec<u8> {
         }
     }
     fewer
+}
+
+/// The mask without this participant; those above it move down.
+fn without_bit(mask: u32, gone: u8) -> u32 {
+    let below = (1 << (gone - 1)) - 1;
+    mask & below | mask >> 1 & !below
 }
 
 /// The fewest items found on which `differs` holds. Many that lie together are removed at once
@@ -110,8 +121,9 @@ fn without_runs<T: Clone>(
 fn more_starts(bytes: Vec<u8>, differs: impl Fn(&[u8]) -> bool) -> Vec<u8> {
     let mut bytes = bytes;
     let mut size = bytes.len();
+    let header = records(&bytes).next().map_or(0, <[u8]>::len);
     while size > bytes.len() / TRIES as usize {
-        for start in (3..bytes.len()).step_by(size) {
+        for start in (header..bytes.len()).step_by(size) {
             let end = (start + size).min(bytes.len());
             let mut plainer = bytes.clone();
             plainer[start..end].fill(START);

@@ -1,7 +1,8 @@
-//! Random schedules whose steps are mostly due, and the steps that are in range under n.
+//! Random schedules of either form whose steps are mostly due, and the steps that are in range under
+//! n.
 
 use crate::random::Random;
-use second::{is_due, single_step, Header, Record, Tail};
+use second::{take_step, Form, Header, Record, Tail};
 
 /// The greatest length of a schedule in bytes.
 pub const LIMIT: usize = 32_768;
@@ -23,12 +24,26 @@ const SILENCE: Weights = [0, 0, 0, 1, 14, 1, 1, 0, 0];
 const ROUGH: Weights = [2, 6, 2, 2, 8, 3, 3, 2, 3];
 const CRASHES: Weights = [1, 4, 1, 1, 9, 2, 1, 4, 6];
 
+/// The number of a group for this form: that of wide schedules stands ten above that of narrow ones.
+pub fn group(narrow: u64, form: Form) -> u64 {
+    match form {
+        Form::Narrow => narrow,
+        Form::Wide => narrow + 10,
+    }
+}
+
+/// The mask of participants 1 to n, n from 1 to 32.
+pub fn full(n: u32) -> u32 {
+    u32::MAX >> (32 - n)
+}
+
 /// The length of each kind's body; none for an unknown kind.
 pub fn body_length(kind: u8) -> Option<usize> {
     match kind {
         1 | 3..=7 => Some(2),
         2 => Some(0),
         8..=10 => Some(1),
+        11 => Some(5),
         _ => None,
     }
 }
@@ -45,11 +60,35 @@ pub fn records(bytes: &[u8]) -> impl Iterator<Item = &[u8]> {
     })
 }
 
-/// Appends a record whose numbers are bytes.
+/// Appends a record whose numbers fit their bytes.
 pub fn append(bytes: &mut Vec<u8>, record: Record) {
-    let numbers = [record.kind, record.first, record.second].map(|number| number as u8);
-    let length = 1 + body_length(numbers[0]).unwrap_or(0);
-    bytes.extend_from_slice(&numbers[..length]);
+    let [a, b, c, d] = record.second.to_le_bytes();
+    let whole = [record.kind as u8, record.first as u8, a, b, c, d];
+    let length = 1 + body_length(whole[0]).unwrap_or(0);
+    bytes.extend_from_slice(&whole[..length]);
+}
+
+pub fn header_bytes(header: Header) -> Vec<u8> {
+    let record = Record {
+        kind: header.kind,
+        first: header.n,
+        second: header.votes,
+    };
+    let mut bytes = Vec::new();
+    append(&mut bytes, record);
+    bytes
+}
+
+/// The header of an accepted schedule, and the bytes of its steps.
+pub fn split_header(schedule: &[u8]) -> (Header, &[u8]) {
+    let read = second::read_record(schedule, None);
+    let (record, length) = read.expect("the schedule is accepted");
+    let header = Header {
+        kind: record.kind,
+        n: record.first,
+        votes: record.second,
+    };
+    (header, &schedule[length..])
 }
 
 /// Every step that a reader yields under this n.
@@ -75,6 +114,19 @@ pub fn every_step(n: u32) -> Vec<Record> {
     steps
 }
 
+/// The start, every request of n delivered, and every vote.
+pub fn every_vote(n: u32) -> Vec<Record> {
+    let step = |kind, first, second| Record {
+        kind,
+        first,
+        second,
+    };
+    let mut steps = vec![step(2, 0, 0)];
+    steps.extend((1..=n).map(|participant| step(3, 1, participant)));
+    steps.extend((1..=n).map(|participant| step(6, participant, participant)));
+    steps
+}
+
 /// Any step that a reader yields under this n, each kind equally often.
 pub fn any_step(random: &mut Random, n: u32) -> Record {
     let kind = random.between(2, 10);
@@ -92,19 +144,23 @@ pub fn any_step(random: &mut Random, n: u32) -> Record {
 }
 
 /// A header in range; most of them hold every vote.
-pub fn any_header(random: &mut Random) -> Header {
-    let n = random.pick(&[1, 2, 3, 4, 5, 6, 7, 8, 8]);
-    let full = (1 << n) - 1;
+pub fn any_header(random: &mut Random, form: Form) -> Header {
+    let n = random.pick(match form {
+        Form::Narrow => &[1, 2, 3, 4, 5, 6, 7, 8, 8],
+        Form::Wide => &[1, 2, 3, 8, 9, 16, 31, 32, 32],
+    });
     let votes = match random.below(3) {
-        0 => random.between(0, full),
-        _ => full,
+        0 => random.between(0, full(n)),
+        _ => full(n),
     };
-    Header { n, votes }
+    let kind = form.header_kind();
+    Header { kind, n, votes }
 }
 
 /// A run of one release that chooses its steps as it goes. It has two phases, each with its own
 /// weights, so that a rough end can follow a calm beginning and the other way round.
 pub struct Run {
+    pub header: Header,
     pub tail: Tail,
     phases: [Weights; 2],
     change: u32,
@@ -114,13 +170,15 @@ pub struct Run {
 impl Run {
     /// A run may come to an end where nothing is due any more; a `lasting` one has crashes and
     /// restarts that keep it going.
-    pub fn fresh(random: &mut Random, lasting: bool) -> Run {
+    pub fn fresh(random: &mut Random, form: Form, lasting: bool) -> Run {
         let mut phases = [any_weights(random), any_weights(random)];
         if lasting {
             phases[1] = random.pick(&[ROUGH, CRASHES]);
         }
+        let header = any_header(random, form);
         Run {
-            tail: Tail::fresh(any_header(random)),
+            header,
+            tail: Tail::fresh(header),
             phases,
             change: random.below(50),
             steps: 0,
@@ -130,6 +188,7 @@ impl Run {
     /// A run under this header in which participants wait too long, and some restart.
     pub fn terminating(header: Header) -> Run {
         Run {
+            header,
             tail: Tail::fresh(header),
             phases: [TIMEOUTS, ROUGH],
             change: 100,
@@ -146,8 +205,17 @@ impl Run {
     /// Chooses a step and takes it; none if no due step was found. A small share of the steps is
     /// not due.
     pub fn step(&mut self, random: &mut Random) -> Option<Record> {
-        let record = self.choose(random)?;
-        Some(self.take(record))
+        if self.steps == 0 && !random.one_in(8) {
+            return Some(self.take(Record {
+                kind: u32::from(START),
+                first: 0,
+                second: 0,
+            }));
+        }
+        if random.one_in(16) {
+            return Some(self.any_step(random));
+        }
+        self.due_step(random)
     }
 
     /// Takes any step in range, due or not.
@@ -159,28 +227,17 @@ impl Run {
     /// A step that is not due changes nothing.
     fn take(&mut self, record: Record) -> Record {
         self.steps += 1;
-        let next = single_step(&self.tail, record.kind, record.first, record.second);
-        if let Ok((tail, _)) = next {
-            self.tail = tail;
-        }
+        take_step(&mut self.tail, record);
         record
     }
 
-    fn choose(&self, random: &mut Random) -> Option<Record> {
-        if self.steps == 0 && !random.one_in(8) {
-            return Some(Record {
-                kind: u32::from(START),
-                first: 0,
-                second: 0,
-            });
-        }
-        if random.one_in(16) {
-            return Some(any_step(random, self.tail.n));
-        }
-        let weights = &self.phases[usize::from(self.steps >= self.change)];
+    /// Looks for a due step and takes it.
+    fn due_step(&mut self, random: &mut Random) -> Option<Record> {
+        let weights = self.phases[usize::from(self.steps >= self.change)];
         for _ in 0..TRIES {
-            let record = candidate(random, &self.tail, weights);
-            if is_due(&self.tail, record) {
+            let record = candidate(random, &self.tail, &weights);
+            if take_step(&mut self.tail, record).is_some() {
+                self.steps += 1;
                 return Some(record);
             }
         }
@@ -254,14 +311,26 @@ fn any_call(random: &mut Random, tail: &Tail) -> (u32, u32) {
     (party, party)
 }
 
-pub fn header_bytes(tail: &Tail) -> Vec<u8> {
-    vec![1, tail.n as u8, tail.votes as u8]
+/// A random schedule of at most this many steps.
+pub fn random_schedule(random: &mut Random, form: Form, steps: usize) -> Vec<u8> {
+    let run = Run::fresh(random, form, false);
+    let bytes = header_bytes(run.header);
+    continued(random, run, bytes, steps)
 }
 
-/// A random schedule of at most this many steps.
-pub fn random_schedule(random: &mut Random, steps: usize) -> Vec<u8> {
-    let mut run = Run::fresh(random, false);
-    let mut bytes = header_bytes(&run.tail);
+/// A random wide schedule of the steps to all votes and at most this many further ones, since so
+/// many participants would hardly ever all vote by chance.
+pub fn voted_schedule(random: &mut Random, steps: usize) -> Vec<u8> {
+    let mut run = Run::fresh(random, Form::Wide, false);
+    let mut bytes = header_bytes(run.header);
+    for record in every_vote(run.header.n) {
+        append(&mut bytes, run.take(record));
+    }
+    continued(random, run, bytes, steps)
+}
+
+/// The bytes of a run so far, followed by at most this many steps.
+fn continued(random: &mut Random, mut run: Run, mut bytes: Vec<u8>, steps: usize) -> Vec<u8> {
     for _ in 0..steps {
         match run.step(random) {
             Some(record) => append(&mut bytes, record),
@@ -272,22 +341,28 @@ pub fn random_schedule(random: &mut Random, steps: usize) -> Vec<u8> {
     bytes
 }
 
-/// A schedule of just this many bytes, at least 30, in which the coordinator closes every log at
+/// A schedule of just this many bytes, at least 110, in which the coordinator closes every log at
 /// the end, the last one with its answer heard.
-pub fn closed_at_the_end(n: u8, length: usize) -> Vec<u8> {
+pub fn closed_at_the_end(form: Form, n: u32, length: usize) -> Vec<u8> {
+    let header = Header {
+        kind: form.header_kind(),
+        n,
+        votes: 0,
+    };
+    let last = n as u8;
     let mut end = vec![8, 0];
-    end.extend((1..n).flat_map(|log| [7, 0, log]));
-    end.extend([6, 0, n]);
-    let mut bytes = vec![1, n, 0];
+    end.extend((1..last).flat_map(|log| [7, 0, log]));
+    end.extend([6, 0, last]);
+    let mut bytes = header_bytes(header);
     bytes.resize(length - end.len(), START);
     bytes.extend(end);
     bytes
 }
 
-/// A random schedule of just this many bytes, at least 3.
-pub fn schedule_of_length(random: &mut Random, length: usize) -> Vec<u8> {
-    let mut run = Run::fresh(random, true);
-    let mut bytes = header_bytes(&run.tail);
+/// A random schedule of just this many bytes, at least those of its header.
+pub fn schedule_of_length(random: &mut Random, form: Form, length: usize) -> Vec<u8> {
+    let mut run = Run::fresh(random, form, true);
+    let mut bytes = header_bytes(run.header);
     loop {
         let whole = bytes.len();
         run.append_step(random, &mut bytes);

@@ -2,11 +2,28 @@
 //! damaged ones.
 
 use crate::random::Random;
-use crate::schedules::any_header;
-use second::{Header, ParticipantFields, Tail};
+use crate::schedules::{any_header, full};
+use second::{Form, Header, ParticipantFields, Tail};
 
-/// The length of a tail.
-pub const TAIL: usize = 59;
+/// The length of a state, which has the wide tail's form whatever its n.
+pub const TAIL: usize = Form::Wide.tail_length();
+
+/// Place and length of n, votes, coordinator state, heard mask and message masks.
+const RELEASE: [(usize, usize); 9] = [
+    (0, 1),
+    (1, 4),
+    (5, 1),
+    (6, 4),
+    (10, 4),
+    (14, 4),
+    (18, 4),
+    (22, 4),
+    (26, 4),
+];
+const HEARD: (usize, usize) = RELEASE[3];
+/// The places of participant 1 and of the coordinator's count of calls.
+const PARTICIPANTS: usize = 30;
+const COUNTS: usize = 254;
 
 /// The pairs of first and last record that a log may hold.
 const PAIRS: [(u32, u32); 5] = [(0, 0), (1, 1), (1, 2), (1, 3), (2, 2)];
@@ -15,7 +32,8 @@ const PAIRS: [(u32, u32); 5] = [(0, 0), (1, 1), (1, 2), (1, 3), (2, 2)];
 /// counted.
 pub fn every_of_one(votes: u32, coordinator: u32) -> Vec<Tail> {
     let mut states = Vec::new();
-    let mut tail = Tail::fresh(Header { n: 1, votes });
+    let kind = Form::Wide.header_kind();
+    let mut tail = Tail::fresh(Header { kind, n: 1, votes });
     tail.state = coordinator;
     // Nobody else is there to be heard, so state 4 is out of range.
     for state in (0..=9).filter(|state| *state != 4) {
@@ -39,35 +57,51 @@ fn with_messages(tail: Tail, messages: u32) -> Tail {
 }
 
 /// Damages one field: a byte of it, a pair of records, a heard mask, or a count.
-pub fn damage(random: &mut Random, bytes: &mut [u8; TAIL]) {
-    let n = u32::from(bytes[0]).clamp(1, 8);
-    let full = ((1_u32 << n) - 1) as u8;
-    let own = 1 << random.below(8);
-    let participant = 9 + 4 * random.place(8);
-    let count = 41 + 2 * random.place(9);
+pub fn damage(random: &mut Random, form: Form, bytes: &mut [u8; TAIL]) {
+    let most = form.most_participants();
+    let full = full(u32::from(bytes[0]).clamp(1, most));
+    let own = 1 << random.below(most);
+    let participant = PARTICIPANTS + 7 * random.place(most as usize);
+    let count = COUNTS + 2 * random.place(most as usize + 1);
+    let beyond = full.wrapping_add(1);
     match random.below(8) {
         0 => bytes[random.place(TAIL)] = random.byte(),
         1 => bytes[random.place(TAIL)] = random.small_byte(),
-        2 => bytes[random.place(9)] = random.pick(&[full, full.wrapping_add(1), 7, 9, 255]),
+        2 => {
+            let numbers = [full, beyond, 7, 9, 33, 255, 1 << 31];
+            put(bytes, random.pick(&RELEASE), random.pick(&numbers));
+        }
         3 => bytes[participant] = random.below(11) as u8,
-        4 => bytes[participant + 1] = random.pick(&[full, own, full & !own, 0, 1, 255]),
-        5 => bytes[participant + 2..][..2].fill_with(|| random.below(5) as u8),
+        4 => {
+            let masks = [full, own, full & !own, beyond, 0, 1, 255, 1 << 31];
+            put(bytes, (participant + 1, 4), random.pick(&masks));
+        }
+        5 => bytes[participant + 5..][..2].fill_with(|| random.below(5) as u8),
         6 => bytes[count..][..2].copy_from_slice(&[random.pick(&[254, 255]), 255]),
-        _ => bytes[3] = random.pick(&[full, full >> 1, 1, 0, 255]),
+        _ => {
+            let masks = [full, full >> 1, beyond, 1, 0, 255];
+            put(bytes, HEARD, random.pick(&masks));
+        }
     }
 }
 
+/// Puts a number into a field, low byte first.
+fn put(bytes: &mut [u8; TAIL], (place, length): (usize, usize), number: u32) {
+    bytes[place..][..length].copy_from_slice(&number.to_le_bytes()[..length]);
+}
+
 /// A state in range, field by field, that mostly no run reaches.
-pub fn built(random: &mut Random) -> Tail {
-    let mut tail = Tail::fresh(any_header(random));
-    let full = (1 << tail.n) - 1;
+pub fn built(random: &mut Random, form: Form) -> Tail {
+    let mut tail = Tail::fresh(any_header(random, form));
+    let full = full(tail.n);
     tail.state = random.between(0, 6);
     if tail.state == 1 || tail.state == 2 {
         tail.heard = random.below(full);
     }
     tail.messages = std::array::from_fn(|_| random.between(0, full));
     for own in 0..tail.n {
-        tail.participants[own as usize] = built_participant(random, full & !(1 << own));
+        let others = full & !(1 << own);
+        tail.participants[own as usize] = built_participant(random, form, others);
     }
     for party in 0..=tail.n {
         tail.calls[party as usize] = random.pick(&[0, 1, 255, 256, 10_000, 65_533, 65_534]);
@@ -76,9 +110,9 @@ pub fn built(random: &mut Random) -> Tail {
 }
 
 /// A participant's fields in range; `others` is the mask of all others.
-fn built_participant(random: &mut Random, others: u32) -> ParticipantFields {
+fn built_participant(random: &mut Random, form: Form, others: u32) -> ParticipantFields {
     let (first, last) = random.pick(&PAIRS);
-    let heard = random.below(256) & others;
+    let heard = heard_of(random, form, others);
     match random.between(0, 9) {
         4 if heard == others => ParticipantFields {
             state: 3,
@@ -98,5 +132,15 @@ fn built_participant(random: &mut Random, others: u32) -> ParticipantFields {
             first,
             last,
         },
+    }
+}
+
+/// A mask of others. Of very many, all but one are heard in every second mask, since such a mask
+/// would hardly ever come by chance.
+fn heard_of(random: &mut Random, form: Form, others: u32) -> u32 {
+    match form {
+        Form::Narrow => random.below(256) & others,
+        Form::Wide if random.one_in(2) => others & !(1 << random.below(32)),
+        Form::Wide => random.between(0, others) & others,
     }
 }

@@ -1,5 +1,5 @@
 //! Group 7, the single step: states that random runs reach, the same with a damaged field, and
-//! states in range that no run reaches.
+//! states in range that no run reaches; group 17 is the same for states of wide schedules.
 
 use crate::difference::{hexadecimal, Difference};
 use crate::figures::{add, due_words, EndedByDecision, Numbers, ReportBytes};
@@ -8,9 +8,9 @@ use crate::lent::pattern;
 use crate::proved;
 use crate::random::Random;
 use crate::reduce;
-use crate::schedules::{any_step, every_step, Run};
+use crate::schedules::{any_step, every_step, group, Run};
 use crate::states::{built, damage, every_of_one, TAIL};
-use second::{log_entry, Log, Tail};
+use second::{log_entry, Form, Log, Tail};
 use std::fmt;
 
 /// How many runs and how many built states a job has.
@@ -101,8 +101,7 @@ impl fmt::Display for StepFigures {
     }
 }
 
-/// Compares steps from every state in range of n = 1, from the states of at least `cases` runs, and
-/// from twice as many built states.
+/// Compares steps from every state in range of n = 1, and from further states of the narrow form.
 pub fn compare(seed: u64, cases: usize) -> Result<StepFigures, Difference> {
     let single = jobs::run_all(14, |job| {
         let mut figures = StepFigures::default();
@@ -111,34 +110,45 @@ pub fn compare(seed: u64, cases: usize) -> Result<StepFigures, Difference> {
         }
         Ok(figures)
     })?;
+    let mut whole = compare_runs(seed, cases, Form::Narrow)?;
+    single.iter().for_each(|part| whole.add(part));
+    Ok(whole)
+}
+
+/// Compares steps from the states of at least `cases` runs of this form, and from twice as many
+/// built states.
+pub fn compare_runs(seed: u64, cases: usize, form: Form) -> Result<StepFigures, Difference> {
     let done = jobs::run_all(cases.div_ceil(RUNS), |job| {
-        let mut random = Random::new(seed, 7, job);
+        let mut random = Random::new(seed, group(7, form), job);
         let mut figures = StepFigures::default();
         for _ in 0..RUNS {
-            follow_run(&mut random, &mut figures)?;
+            follow_run(&mut random, form, &mut figures)?;
         }
         for _ in 0..BUILT {
-            let tail = built(&mut random);
+            let tail = built(&mut random, form);
             every_step_of(&tail, &mut figures)?;
-            odd_steps(&tail.bytes(), &mut random, &mut figures)?;
-            damaged_states(&tail, &mut random, &mut figures)?;
+            odd_steps(&tail, &mut random, form, &mut figures)?;
+            damaged_states(&tail, &mut random, form, &mut figures)?;
         }
         Ok(figures)
     })?;
     let mut whole = StepFigures::default();
-    single.iter().for_each(|part| whole.add(part));
     done.iter().for_each(|part| whole.add(part));
     Ok(whole)
 }
 
-fn follow_run(random: &mut Random, figures: &mut StepFigures) -> Result<(), Difference> {
-    let mut run = Run::fresh(random, false);
+fn follow_run(
+    random: &mut Random,
+    form: Form,
+    figures: &mut StepFigures,
+) -> Result<(), Difference> {
+    let mut run = Run::fresh(random, form, false);
     for at in 0..STEPS {
         if random.one_in(12) {
             every_step_of(&run.tail, figures)?;
-            odd_steps(&run.tail.bytes(), random, figures)?;
+            odd_steps(&run.tail, random, form, figures)?;
         }
-        damaged_states(&run.tail, random, figures)?;
+        damaged_states(&run.tail, random, form, figures)?;
         if run.step(random).is_none() && at % 2 == 0 {
             break;
         }
@@ -147,7 +157,7 @@ fn follow_run(random: &mut Random, figures: &mut StepFigures) -> Result<(), Diff
 }
 
 fn every_step_of(tail: &Tail, figures: &mut StepFigures) -> Result<(), Difference> {
-    let bytes = tail.bytes();
+    let bytes = tail.wide_bytes();
     for step in every_step(tail.n) {
         let step = [step.kind, step.first, step.second];
         compare_step(&bytes, step, TAIL, figures)?;
@@ -157,33 +167,43 @@ fn every_step_of(tail: &Tail, figures: &mut StepFigures) -> Result<(), Differenc
 
 /// Steps that are mostly out of range, and lent slices of other lengths.
 fn odd_steps(
-    bytes: &[u8; TAIL],
+    tail: &Tail,
     random: &mut Random,
+    form: Form,
     figures: &mut StepFigures,
 ) -> Result<(), Difference> {
+    let bytes = &tail.wide_bytes();
     for _ in 0..20 {
-        let step = any_step(random, 8);
+        let step = any_step(random, form.most_participants());
         let mut step = [step.kind, step.first, step.second];
         compare_step(bytes, step, random.place(ROOM), figures)?;
-        step[random.place(3)] = random.number();
-        compare_step(bytes, step, TAIL, figures)?;
-        step[random.place(3)] = random.number();
-        compare_step(bytes, step, TAIL, figures)?;
+        for _ in 0..2 {
+            step[random.place(3)] = odd_number(random, form);
+            compare_step(bytes, step, TAIL, figures)?;
+        }
     }
     Ok(())
+}
+
+fn odd_number(random: &mut Random, form: Form) -> u32 {
+    match form {
+        Form::Narrow => random.number(),
+        Form::Wide => random.wide_number(),
+    }
 }
 
 /// The state with one or two damaged fields, under steps in range.
 fn damaged_states(
     tail: &Tail,
     random: &mut Random,
+    form: Form,
     figures: &mut StepFigures,
 ) -> Result<(), Difference> {
     for _ in 0..6 {
-        let mut bytes = tail.bytes();
-        damage(random, &mut bytes);
+        let mut bytes = tail.wide_bytes();
+        damage(random, form, &mut bytes);
         if random.one_in(6) {
-            damage(random, &mut bytes);
+            damage(random, form, &mut bytes);
         }
         for _ in 0..3 {
             let step = any_step(random, tail.n);
@@ -204,7 +224,7 @@ fn compare_step(
     if step_proved(bytes, step, length) != second {
         return Err(reduced(bytes, step, length));
     }
-    figures.note(&Tail::from_bytes(bytes), step, second.0);
+    figures.note(&Tail::from_bytes(Form::Wide, bytes), step, second.0);
     Ok(())
 }
 
@@ -226,9 +246,9 @@ fn step_second(bytes: &[u8; TAIL], step: [u32; 3], length: usize) -> Stepped {
         return (6, lent);
     }
     let [kind, first, second] = step;
-    match second::single_step(&Tail::from_bytes(bytes), kind, first, second) {
+    match second::single_step(&Tail::from_bytes(Form::Wide, bytes), kind, first, second) {
         Ok((next, byte)) => {
-            lent[..TAIL].copy_from_slice(&next.bytes());
+            lent[..TAIL].copy_from_slice(&next.wide_bytes());
             (u32::from(byte) << 8, lent)
         }
         Err(number) => (number, lent),
@@ -271,7 +291,8 @@ fn reduced(bytes: &[u8; TAIL], step: [u32; 3], length: usize) -> Difference {
 fn state_words(bytes: &[u8]) -> String {
     let mut rest = bytes;
     let mut groups = Vec::new();
-    for length in [2, 2, 5, 4, 4, 4, 4, 4, 4, 4, 4, 18] {
+    let lengths = [5, 5, 20].into_iter().chain([7; 32]).chain([66]);
+    for length in lengths {
         let (group, after) = rest.split_at(length);
         groups.push(hexadecimal(group));
         rest = after;

@@ -20,7 +20,7 @@ pub struct Coordinator {
 }
 
 impl Coordinator {
-    /// For n from 1 to 8.
+    /// For n from 1 to 32.
     pub fn is_in_range(self) -> bool {
         match self.state {
             // A mask within n that isn't full is a smaller number than the full one.

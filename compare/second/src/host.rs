@@ -50,8 +50,8 @@ impl Event {
     }
 }
 
-/// Writes state, heard mask and message type sent into the lent buffer and returns 0; or the
-/// refusal's number.
+/// Writes state, heard mask in four bytes, low byte first, and message type sent into the lent
+/// buffer and returns 0; or the refusal's number.
 // The entry's numbers are those of the document.
 #[allow(clippy::too_many_arguments)]
 pub fn host_step(
@@ -81,9 +81,10 @@ pub fn host_step(
     let Some((next, sent)) = event.step(participant) else {
         return NOT_DUE;
     };
-    let Some(lent) = out.first_chunk_mut::<3>() else {
+    let Some(lent) = out.first_chunk_mut::<6>() else {
         return BUFFER_TOO_SHORT;
     };
-    *lent = [next.state as u8, next.heard as u8, sent as u8];
+    let [a, b, c, d] = next.heard.to_le_bytes();
+    *lent = [next.state as u8, a, b, c, d, sent as u8];
     0
 }

@@ -1,8 +1,9 @@
-//! A second implementation of document 01 with requests 2026-01 and 2026-02: the store, the
+//! A second implementation of document 01 with requests 2026-01 to 2026-03: the store, the
 //! participant, the coordinator, the reader and writer of schedules, the marker that runs a
 //! schedule of one release, and the host entry.
 
 mod coordinator;
+mod form;
 mod host;
 mod listing;
 mod marker;
@@ -17,11 +18,12 @@ mod schedule;
 mod store;
 mod tail;
 
+pub use form::Form;
 pub use host::host_step;
 pub use listing::listing;
 pub use marker::run;
 pub use refusal::Refusal;
-pub use release::{is_due, single_step};
+pub use release::{is_due, single_step, take_step};
 pub use schedule::{read_record, write_record, Header, Record};
 pub use store::{log_entry, log_once_entry, Log, Performed};
 pub use tail::{ParticipantFields, Tail};

@@ -1,26 +1,25 @@
 //! The listing that program `mark` prints for a schedule.
 
+use crate::form::Form;
 use crate::marker::run;
 use crate::report;
 use crate::schedule::MOST_BYTES;
 use crate::store;
-use crate::tail::{Tail, TAIL_LENGTH};
+use crate::tail::Tail;
 
 /// What program `mark` prints for this schedule, every line ended by a newline.
 pub fn listing(schedule: &[u8]) -> String {
     // A step takes at least one byte, so no report is longer.
-    let mut buffer = vec![0; MOST_BYTES + TAIL_LENGTH];
+    let mut buffer = vec![0; MOST_BYTES + Form::Wide.tail_length()];
     match run(schedule, &mut buffer) {
         Err(refusal) => format!("refused {} at {}\n", refusal.number, refusal.value),
-        Ok(length) => report_lines(&buffer[..length]),
+        Ok(length) => report_lines(Form::under(u32::from(schedule[0])), &buffer[..length]),
     }
 }
 
-fn report_lines(report: &[u8]) -> String {
-    let Some((steps, tail_bytes)) = report.split_last_chunk::<TAIL_LENGTH>() else {
-        return String::new();
-    };
-    let tail = Tail::from_bytes(tail_bytes);
+fn report_lines(form: Form, report: &[u8]) -> String {
+    let (steps, tail_bytes) = report.split_at(report.len() - form.tail_length());
+    let tail = Tail::from_bytes(form, tail_bytes);
     let mut text = String::new();
     for (at, &byte) in steps.iter().enumerate() {
         text += &format!("{} {}{}\n", at + 1, outcome_word(byte), closed_word(byte));

@@ -3,8 +3,8 @@
 use crate::refusal::{Refusal, BUFFER_TOO_SHORT, EMPTY_OR_TOO_LONG};
 use crate::release::take_step;
 use crate::report;
-use crate::schedule::{read_record, AcceptedRecords, Header, MOST_BYTES};
-use crate::tail::{Tail, TAIL_LENGTH};
+use crate::schedule::{read_record, read_step, AcceptedRecords, Header, MOST_BYTES};
+use crate::tail::Tail;
 
 /// A schedule without refusals: its header, the bytes of its steps and their number.
 struct Accepted<'a> {
@@ -26,11 +26,11 @@ fn accept(schedule: &[u8]) -> Result<Accepted<'_>, Refusal> {
     let mut place = after_header;
     let mut count = 0;
     while place < schedule.len() {
-        let (_, length) =
-            read_record(&schedule[place..], Some(header)).map_err(|refusal| Refusal {
-                value: place,
-                ..refusal
-            })?;
+        let step = read_step(&schedule[place..], header.n);
+        let (_, length) = step.map_err(|number| Refusal {
+            number,
+            value: place,
+        })?;
         place += length;
         count += 1;
     }
@@ -48,7 +48,8 @@ fn accept(schedule: &[u8]) -> Result<Accepted<'_>, Refusal> {
 /// untouched.
 pub fn run(schedule: &[u8], report: &mut [u8]) -> Result<usize, Refusal> {
     let accepted = accept(schedule)?;
-    let length = accepted.count + TAIL_LENGTH;
+    let form = accepted.header.form();
+    let length = accepted.count + form.tail_length();
     if report.len() < length {
         return Err(Refusal {
             number: BUFFER_TOO_SHORT,
@@ -60,6 +61,6 @@ pub fn run(schedule: &[u8], report: &mut [u8]) -> Result<usize, Refusal> {
     for (byte, step) in step_bytes.iter_mut().zip(accepted.steps) {
         *byte = take_step(&mut tail, step).unwrap_or(report::IDLE);
     }
-    rest[..TAIL_LENGTH].copy_from_slice(&tail.bytes());
+    tail.put(form, &mut rest[..form.tail_length()]);
     Ok(length)
 }

@@ -46,15 +46,20 @@ fn no_input() {
 fn reports_and_refusals() {
     let accepted = bytes("01 02 03 09 01 0A 01 06 01 01");
     let short = bytes("01 01 01 06 01");
+    let wide = bytes("0B 20 FF FF FF FF 09 20 0A 20 06 20 20");
     let input = [
         frame(&accepted),
         frame(&[]),
         frame(&short),
+        frame(&wide),
+        frame(&wide[..5]),
         frame(&accepted),
     ]
     .concat();
-    let line = report_line(&accepted);
-    let expected = format!("{line}refused 1 at 0\nrefused 3 at 3\n{line}");
+    let (line, wide) = (report_line(&accepted), report_line(&wide));
+    assert_eq!(wide.len(), 2 * (3 + 320) + 1);
+    let refused = "refused 1 at 0\nrefused 3 at 3\n";
+    let expected = format!("{line}{refused}{wide}refused 3 at 0\n{line}");
     assert_eq!(output(input), expected);
 }
 
@@ -75,7 +80,10 @@ fn long_schedules_across_blocks() {
         schedule[..3].copy_from_slice(&[0x01, 0x08, 0xFF]);
         schedule
     };
+    let mut wide = starts(32_768);
+    wide[..6].copy_from_slice(&bytes("0B 20 FF FF FF FF"));
     let group = [
+        frame(&wide),
         frame(&starts(32_768)),
         frame(&starts(32_769)),
         frame(&starts(65_535)),
@@ -83,6 +91,7 @@ fn long_schedules_across_blocks() {
     ];
     let input = group.concat().repeat(30);
     let lines = [
+        report_line(&wide),
         report_line(&starts(32_768)),
         "refused 1 at 0\n".repeat(2),
         report_line(&starts(4)),

@@ -3,7 +3,7 @@
 
 mod common;
 
-use common::{bytes, fresh, headers, steps, Numbers};
+use common::{bytes, fresh, header_bytes, headers, steps, tail_length, wide_headers, Numbers};
 use second::{is_due, listing, run, single_step, write_record, Header, Record, Refusal, Tail};
 
 fn refusal(number: u32, value: usize) -> Result<usize, Refusal> {
@@ -15,13 +15,15 @@ fn refusals_in_order() {
     let cases = [
         ("", 1, 0),
         ("00", 2, 0),
-        ("0B 01 01", 2, 0),
+        ("0C 01 01", 2, 0),
+        ("0B 01 01", 3, 0),
         ("01", 3, 0),
         ("06 01", 3, 0),
         ("09 01", 4, 0),
         ("01 00 00", 5, 0),
         ("01 02 04", 5, 0),
-        ("01 02 03 0B", 2, 3),
+        ("01 02 03 0C", 2, 3),
+        ("01 02 03 0B", 3, 3),
         ("01 02 03 01 02", 3, 3),
         ("01 02 03 01 02 03", 4, 3),
         ("01 02 03 02 08 03", 5, 4),
@@ -58,7 +60,7 @@ fn report_too_short() {
 fn schedule(header: Header, count: usize, numbers: &mut Numbers) -> (Vec<u8>, Vec<Record>) {
     let all = steps(header.n);
     let mut tail = Tail::fresh(header);
-    let mut bytes = vec![0x01, header.n as u8, header.votes as u8];
+    let mut bytes = header_bytes(header);
     let mut taken = Vec::new();
     for _ in 0..count {
         let due: Vec<Record> = all.iter().copied().filter(|&s| is_due(&tail, s)).collect();
@@ -92,31 +94,32 @@ fn repeated_single_steps(header: Header, steps: &[Record]) -> Vec<u8> {
             }
         }
     }
-    report.extend(tail.bytes());
+    match header.kind {
+        0x0B => report.extend(tail.wide_bytes()),
+        _ => report.extend(tail.narrow_bytes()),
+    }
     report
 }
 
 #[test]
 fn run_equals_repeated_single_steps() {
     let mut numbers = Numbers(1);
-    for header in headers() {
+    for header in headers().into_iter().chain(wide_headers()) {
         for count in [0, 1, 10, 100] {
             let (schedule, steps) = schedule(header, count, &mut numbers);
-            let mut report = vec![0xEE; count + 60];
-            assert_eq!(run(&schedule, &mut report), Ok(count + 59));
+            let length = count + tail_length(header);
+            let mut report = vec![0xEE; length + 1];
+            assert_eq!(run(&schedule, &mut report), Ok(length));
             let expected = repeated_single_steps(header, &steps);
-            assert_eq!(report[..count + 59], expected[..]);
-            assert_eq!(report[count + 59], 0xEE);
+            assert_eq!(report[..length], expected[..]);
+            assert_eq!(report[length], 0xEE);
         }
     }
 }
 
 /// The report's step bytes for a schedule, and the state in its tail.
 fn report(text: &str) -> (Vec<u8>, Tail) {
-    let mut report = [0; 200];
-    let length = run(&bytes(text), &mut report).expect("accepted");
-    let (steps, tail) = report[..length].split_last_chunk::<59>().expect("a tail");
-    (steps.to_vec(), Tail::from_bytes(tail))
+    common::report(&bytes(text))
 }
 
 #[test]

@@ -3,15 +3,15 @@
 
 mod common;
 
-use common::bytes;
+use common::{bytes, narrow, wide};
 use second::model::{check, check_rules, Rules};
 use second::{report, single_step, Header, Record, Tail};
 
-const NO_VOTE: Header = Header { n: 1, votes: 0 };
-const YES_VOTE: Header = Header { n: 1, votes: 1 };
-const TWO_YES_VOTES: Header = Header { n: 2, votes: 3 };
+const NO_VOTE: Header = narrow(1, 0);
+const YES_VOTE: Header = narrow(1, 1);
+const TWO_YES_VOTES: Header = narrow(2, 3);
 /// Participants 1 and 2 vote yes, participant 3 votes no.
-const TWO_OF_THREE: Header = Header { n: 3, votes: 3 };
+const TWO_OF_THREE: Header = narrow(3, 3);
 
 const CLOSED: &str =
     "4 is added exactly where a party writes the first record, an abort, into a log not its own";
@@ -97,16 +97,17 @@ fn assert_violated(header: Header, rules: Rules, clause: &str, schedule: &str) {
 fn every_clause_holds() {
     for n in 1..=2 {
         for votes in 0..1 << n {
-            let figures = check(Header { n, votes });
+            let figures = check(narrow(n, votes));
             assert!(figures.is_ok());
-            assert_eq!(check_rules(Header { n, votes }, by_the_rules), figures);
+            assert_eq!(check_rules(narrow(n, votes), by_the_rules), figures);
+            assert_eq!(check(wide(n, votes)), figures);
         }
     }
 }
 
 #[test]
 fn numbers_of_states() {
-    let states = |n, votes| check(Header { n, votes }).map(|figures| figures.states);
+    let states = |n, votes| check(narrow(n, votes)).map(|figures| figures.states);
     assert_eq!(states(1, 0), Ok(165));
     assert_eq!(states(1, 1), Ok(507));
     assert_eq!(states(2, 0), Ok(5_621));
@@ -118,8 +119,10 @@ fn numbers_of_states() {
 #[test]
 fn headers_out_of_range() {
     for (n, votes) in [(0, 0), (4, 0), (1, 2), (u32::MAX, 0), (2, u32::MAX)] {
-        let violation = check(Header { n, votes }).expect_err("out of range");
-        assert_eq!(violation.clause, "the header is in the model's range");
+        for header in [narrow(n, votes), wide(n, votes)] {
+            let violation = check(header).expect_err("out of range");
+            assert_eq!(violation.clause, "the header is in the model's range");
+        }
     }
 }
 

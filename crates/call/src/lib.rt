@@ -1,13 +1,17 @@
 // A store call of a party, as a step: `fields` are the release's numbers, which change in place; the store goes in by value and comes back. A
 // contract says what this is for the release that they represent. `i` and `j` are places, which count from 0; `p` is the number of a party; `n` is
-// the release's own; `heard` says whether the answer is heard.
+// the release's own; `heard` says whether the answer is heard. What a party does is worked out on the log that it calls alone: the store is put
+// together once, at the end.
+use coordinator::Coordinator;
 use effect::coordinator_to;
 use effect::participant_to;
+use participant::Participant;
 use rules::Outcome;
 use state::FIELDS;
 use state::coordinator;
 use state::count_call;
 use state::participant_at;
+use store::LogPair;
 use store::Logged;
 use store::Performed;
 use store::Store;
@@ -16,7 +20,8 @@ ghost use Prim.Native.Nat.{ℕ, suc, _≤_, _<_};
 ghost use Rattle.store.specs.Log.{places};
 ghost use Rattle.rules.specs.Report.{closes};
 ghost use Rattle.rules.specs.Step.{participantAnswered, participantPerformed, participantCalls, coordinatorAnswered, coordinatorPerformed, coordinatorCalls, calls};
-ghost use Rattle.call.specs.Steps.{Steps, CanCount};
+ghost use Rattle.state.specs.Fields.{participantIn, coordinatorIn};
+ghost use Rattle.call.specs.Steps.{Steps, Calls, CanCount};
 
 // What a step reports, whether it closed another's log, and the store after it.
 pub struct Stepped {
@@ -45,97 +50,114 @@ fn closes(p: u32, j: u32, l: Logged) -> bool
     if l.wrote_abort() { p != j + 1 } else { false }
 }
 
+// What a call reports, whether it closed another's log, and its log after it.
+struct Called {
+    outcome: Outcome,
+    closed: bool,
+    log: LogPair,
+}
+
+impl Called {
+    fn new(o: Outcome, closed: bool, log: LogPair) -> Called
+        ensures { λ x. ⌜ x ≡ record { outcome = o; closed = closed; log = log } ⌝ }
+    {
+        Called {
+            outcome: o,
+            closed: closed,
+            log: log,
+        }
+    }
+}
+
 // What a performed call of participant i on log j leads to: the log changes, and where the answer is heard the participant does too.
 fn participant_answered(
     fields: &mut [u32; FIELDS],
-    store: Store,
+    log: LogPair,
     heard: bool,
     i: u32,
     j: u32,
     l: Logged,
     t: participant::Transition,
-) -> Stepped
+) -> Called
     requires { ⌜ (i < places) × (j < places) × CanCount (now fields) ⌝ }
-    ensures { λ x. ⌜ ((n : ℕ) → Steps n (participantAnswered heard i j l t) (now (fields .entry)) store (x .outcome) (x .closed) (now (fields .exit)) (x .store)) ⌝ }
+    ensures { λ x. ⌜ ((n : ℕ) → Calls n j (participantAnswered heard i j l t) (now (fields .entry)) log (x .outcome) (x .closed) (now (fields .exit)) (x .log)) ⌝ }
 {
     match t {
-        participant::Transition::NotDue => Stepped::new(Outcome::Idle, false, store),
+        participant::Transition::NotDue => Called::new(Outcome::Idle, false, log),
         participant::Transition::To(p, s) => {
             let closed = closes(i + 1, j, l);
-            let log = l.log;
+            let next = l.log;
             count_call(fields, i + 1);
-            let next = store.with_log(j as usize, log);
             if heard {
-                Stepped::new(participant_to(fields, i, p, s), closed, next)
+                Called::new(participant_to(fields, i, p, s), closed, next)
             } else {
-                Stepped::new(Outcome::Moved, closed, next)
+                Called::new(Outcome::Moved, closed, next)
             }
         }
     }
 }
 
+// The same before it is known whether the store performs it. `p` is participant i.
 fn participant_performed(
     fields: &mut [u32; FIELDS],
-    store: Store,
+    log: LogPair,
     n: u32,
     heard: bool,
     i: u32,
     j: u32,
+    p: Participant,
     l: Performed,
-) -> Stepped
-    requires { ⌜ (n ≤ places) × (i < places) × (j < places) × CanCount (now fields) ⌝ }
-    ensures { λ x. ⌜ Steps n (participantPerformed heard i j l) (now (fields .entry)) store (x .outcome) (x .closed) (now (fields .exit)) (x .store) ⌝ }
+) -> Called
+    requires { ⌜ (n ≤ places) × (i < places) × (j < places) × CanCount (now fields) × (p ≡ participantIn (now fields) i) ⌝ }
+    ensures { λ x. ⌜ Calls n j (participantPerformed heard i j l) (now (fields .entry)) log (x .outcome) (x .closed) (now (fields .exit)) (x .log) ⌝ }
 {
     match l {
-        Performed::Refused => Stepped::new(Outcome::Idle, false, store),
+        Performed::Refused => Called::new(Outcome::Idle, false, log),
         Performed::Done(done) => {
             let answer = done.answer;
-            let p = participant_at(fields, i);
-            participant_answered(fields, store, heard, i, j, done, p.answer(n, i, j, answer))
+            participant_answered(fields, log, heard, i, j, done, p.answer(n, i, j, answer))
         }
     }
 }
 
 fn participant_calls(
     fields: &mut [u32; FIELDS],
-    store: Store,
+    log: LogPair,
     n: u32,
     heard: bool,
     i: u32,
     j: u32,
-) -> Stepped
+) -> Called
     requires { ⌜ (n ≤ places) × (i < places) × (j < places) × CanCount (now fields) ⌝ }
-    ensures { λ x. ⌜ Steps n (participantCalls heard i j) (now (fields .entry)) store (x .outcome) (x .closed) (now (fields .exit)) (x .store) ⌝ }
+    ensures { λ x. ⌜ Calls n j (participantCalls heard i j) (now (fields .entry)) log (x .outcome) (x .closed) (now (fields .exit)) (x .log) ⌝ }
 {
     let p = participant_at(fields, i);
-    let log = store.log_at(j as usize);
-    participant_performed(fields, store, n, heard, i, j, log.perform(p.pending(i, j)))
+    participant_performed(fields, log, n, heard, i, j, p, log.perform(p.pending(i, j)))
 }
 
 // The same for the coordinator.
 fn coordinator_answered(
     fields: &mut [u32; FIELDS],
-    store: Store,
+    log: LogPair,
     n: u32,
     heard: bool,
     j: u32,
     l: Logged,
     t: coordinator::Transition,
-) -> Stepped
+) -> Called
     requires { ⌜ (n ≤ places) × (j < places) × CanCount (now fields) ⌝ }
-    ensures { λ x. ⌜ Steps n (coordinatorAnswered heard j l t) (now (fields .entry)) store (x .outcome) (x .closed) (now (fields .exit)) (x .store) ⌝ }
+    ensures { λ x. ⌜ Calls n j (coordinatorAnswered heard j l t) (now (fields .entry)) log (x .outcome) (x .closed) (now (fields .exit)) (x .log) ⌝ }
 {
     match t {
-        coordinator::Transition::NotDue => Stepped::new(Outcome::Idle, false, store),
+        coordinator::Transition::NotDue => Called::new(Outcome::Idle, false, log),
         coordinator::Transition::To(c, s) => {
             let closed = closes(0, j, l);
-            let log = l.log;
+            let next = l.log;
             count_call(fields, 0);
-            let next = store.with_log(j as usize, log);
             if heard {
-                Stepped::new(coordinator_to(fields, n, c, s), closed, next)
+                Called::new(coordinator_to(fields, n, c, s), closed, next)
             } else {
-                Stepped::new(Outcome::Moved, closed, next)
+                Called::new(Outcome::Moved, closed, next)
             }
         }
     }
@@ -143,41 +165,59 @@ fn coordinator_answered(
 
 fn coordinator_performed(
     fields: &mut [u32; FIELDS],
-    store: Store,
+    log: LogPair,
     n: u32,
     heard: bool,
     j: u32,
+    c: Coordinator,
     l: Performed,
-) -> Stepped
-    requires { ⌜ (n ≤ places) × (j < places) × CanCount (now fields) ⌝ }
-    ensures { λ x. ⌜ Steps n (coordinatorPerformed heard j l) (now (fields .entry)) store (x .outcome) (x .closed) (now (fields .exit)) (x .store) ⌝ }
+) -> Called
+    requires { ⌜ (n ≤ places) × (j < places) × CanCount (now fields) × (c ≡ coordinatorIn (now fields)) ⌝ }
+    ensures { λ x. ⌜ Calls n j (coordinatorPerformed heard j l) (now (fields .entry)) log (x .outcome) (x .closed) (now (fields .exit)) (x .log) ⌝ }
 {
     match l {
-        Performed::Refused => Stepped::new(Outcome::Idle, false, store),
+        Performed::Refused => Called::new(Outcome::Idle, false, log),
         Performed::Done(done) => {
             let answer = done.answer;
-            let c = coordinator(fields);
-            coordinator_answered(fields, store, n, heard, j, done, c.answer(n, j, answer))
+            coordinator_answered(fields, log, n, heard, j, done, c.answer(n, j, answer))
         }
     }
 }
 
 fn coordinator_calls(
     fields: &mut [u32; FIELDS],
-    store: Store,
+    log: LogPair,
     n: u32,
     heard: bool,
     j: u32,
-) -> Stepped
+) -> Called
     requires { ⌜ (n ≤ places) × (j < places) × CanCount (now fields) ⌝ }
-    ensures { λ x. ⌜ Steps n (coordinatorCalls heard j) (now (fields .entry)) store (x .outcome) (x .closed) (now (fields .exit)) (x .store) ⌝ }
+    ensures { λ x. ⌜ Calls n j (coordinatorCalls heard j) (now (fields .entry)) log (x .outcome) (x .closed) (now (fields .exit)) (x .log) ⌝ }
 {
     let c = coordinator(fields);
-    let log = store.log_at(j as usize);
-    coordinator_performed(fields, store, n, heard, j, log.perform(c.pending(j)))
+    coordinator_performed(fields, log, n, heard, j, c, log.perform(c.pending(j)))
 }
 
-// A call of party p on the log at place j.
+// A call of party p on the log at place j, which this is.
+fn party_calls(
+    fields: &mut [u32; FIELDS],
+    log: LogPair,
+    n: u32,
+    heard: bool,
+    p: u32,
+    j: u32,
+) -> Called
+    requires { ⌜ (n ≤ places) × (p ≤ places) × (j < places) × CanCount (now fields) ⌝ }
+    ensures { λ x. ⌜ Calls n j (calls heard p (suc j)) (now (fields .entry)) log (x .outcome) (x .closed) (now (fields .exit)) (x .log) ⌝ }
+{
+    if p == 0 {
+        coordinator_calls(fields, log, n, heard, j)
+    } else {
+        participant_calls(fields, log, n, heard, p - 1, j)
+    }
+}
+
+// The same with the store that has the log.
 pub fn calls(
     fields: &mut [u32; FIELDS],
     store: Store,
@@ -189,9 +229,8 @@ pub fn calls(
     requires { ⌜ (n ≤ places) × (p ≤ places) × (j < places) × CanCount (now fields) ⌝ }
     ensures { λ x. ⌜ Steps n (calls heard p (suc j)) (now (fields .entry)) store (x .outcome) (x .closed) (now (fields .exit)) (x .store) ⌝ }
 {
-    if p == 0 {
-        coordinator_calls(fields, store, n, heard, j)
-    } else {
-        participant_calls(fields, store, n, heard, p - 1, j)
-    }
+    let x = party_calls(fields, store.log_at(j as usize), n, heard, p, j);
+    let outcome = x.outcome;
+    let log = x.log;
+    Stepped::new(outcome, x.closed, store.with_log(j as usize, log))
 }

@@ -15,13 +15,13 @@ use Rattle.state.specs.Fields.{HasPlaces}
 use Rattle.tail.specs.Tail.{tailOf, releaseOf, siteOf, pairOf, fieldsAt, tailInRange}
 use Rattle.tail.specs.Single.{singleStep}
 use Rattle.tail.proofs.Follows.{tail-numbers}
-use Rattle.form.specs.Form.{narrow, messageAt, countAt, tailAt}
+use Rattle.form.specs.Form.{wide, messageAt, countAt, tailAt}
 use Rattle.export.specs.Types.{Kind, Release, Tail}
 use Rattle.export.specs.State.{HandsTail}
 
 module _ (bytes : List ℕ) (kind a b : ℕ) where
   abbrev given : Tail
-  given = tailAt narrow bytes
+  given = tailAt wide bytes
 
   abbrev next : Release
   next = step (releaseOf given) (stepOf kind a b) .next
@@ -31,8 +31,8 @@ module _ (bytes : List ℕ) (kind a b : ℕ) where
       let room = after-room (releaseOf given) (stepOf kind a b ∷ []) in
       record {
         sites = room .sites ∙ length-tabulate places (λ i. siteOf (fieldsAt given i));
-        messages = room .messages ∙ length-tabulate types (messageAt (narrow .width) bytes);
-        calls = room .calls ∙ length-tabulate (suc places) (countAt narrow bytes);
+        messages = room .messages ∙ length-tabulate types (messageAt (wide .width) bytes);
+        calls = room .calls ∙ length-tabulate (suc places) (countAt wide bytes);
       }
 
   next-back : releaseOf (tailOf next) ≡ next
@@ -41,12 +41,12 @@ module _ (bytes : List ℕ) (kind a b : ℕ) where
       tail-numbers .decoded next (next-places .sites) (room .logs ∙ length-tabulate places (λ i. pairOf (fieldsAt given i)))
 
   pub hands-tail : HandsTail (singleStep given kind a b)
-  hands-tail = ranged (tailInRange Kind.Header given && numbersInRange (given .n) kind a b) refl
+  hands-tail = ranged (tailInRange Kind.WideHeader given && numbersInRange (given .n) kind a b) refl
     where
-      due : (x : Bool) → moves (step (releaseOf given) (stepOf kind a b) .outcome) ≡ x → tailInRange Kind.Header given && numbersInRange (given .n) kind a b ≡ true → HandsTail (singleStep given kind a b)
+      due : (x : Bool) → moves (step (releaseOf given) (stepOf kind a b) .outcome) ≡ x → tailInRange Kind.WideHeader given && numbersInRange (given .n) kind a b ≡ true → HandsTail (singleStep given kind a b)
       due true q p = rw (p, q) (λ _. (subst HasPlaces (sym next-back) next-places, ap tailOf next-back))
       due false q p = rw (p, q) (λ e. absurd (omega arith))
 
-      ranged : (x : Bool) → tailInRange Kind.Header given && numbersInRange (given .n) kind a b ≡ x → HandsTail (singleStep given kind a b)
+      ranged : (x : Bool) → tailInRange Kind.WideHeader given && numbersInRange (given .n) kind a b ≡ x → HandsTail (singleStep given kind a b)
       ranged true p = due (moves (step (releaseOf given) (stepOf kind a b) .outcome)) refl p
       ranged false p = rw p (λ e. absurd (omega arith))

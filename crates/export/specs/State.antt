@@ -1,4 +1,4 @@
--- The single step on the bytes of a tail. Assumes nothing.
+-- The single step on the bytes of a tail under header 0B, which holds a state with any n. Assumes nothing.
 use mathlib.Core.Path.{_≡_}
 use mathlib.Core.Bool.{cond}
 use mathlib.Core.List.{List}
@@ -10,7 +10,7 @@ use Rattle.number.specs.Refusal.{accepted, tooShort}
 use Rattle.state.specs.Fields.{HasPlaces}
 use Rattle.tail.specs.Tail.{tailOf, releaseOf}
 use Rattle.tail.specs.Single.{singleStep}
-use Rattle.form.specs.Form.{narrow, tailBytes, tailLength, tailAt}
+use Rattle.form.specs.Form.{wide, tailBytes, tailLength, tailAt}
 use Rattle.export.specs.Types.{Stepped}
 use Rattle.export.specs.Packed.{fourBytes}
 
@@ -21,7 +21,7 @@ steppedPacked s = fourBytes (s .number) (s .byte) 0 0
 
 -- the next state's bytes; a refusal leaves them as they were
 abbrev pub steppedLeaves : List ℕ → Stepped → List ℕ
-steppedLeaves bytes s = cond (eqb (s .number) accepted) (sets bytes 0 (tailBytes narrow (s .state))) bytes
+steppedLeaves bytes s = cond (eqb (s .number) accepted) (sets bytes 0 (tailBytes wide (s .state))) bytes
 
 -- the state after a step that was taken is the tail of a release
 abbrev pub HandsTail : Stepped → Type 0
@@ -30,7 +30,7 @@ HandsTail s = s .number ≡ accepted → HasPlaces (releaseOf (s .state)) × (ta
 -- fewer bytes than a tail has are refused and left alone
 
 abbrev pub stateAnswers : List ℕ → ℕ → ℕ → ℕ → ℕ
-stateAnswers bytes kind a b = cond (ltb (length bytes) (tailLength narrow)) tooShort (steppedPacked (singleStep (tailAt narrow bytes) kind a b))
+stateAnswers bytes kind a b = cond (ltb (length bytes) (tailLength wide)) tooShort (steppedPacked (singleStep (tailAt wide bytes) kind a b))
 
 abbrev pub stateLeaves : List ℕ → ℕ → ℕ → ℕ → List ℕ
-stateLeaves bytes kind a b = cond (ltb (length bytes) (tailLength narrow)) bytes (steppedLeaves bytes (singleStep (tailAt narrow bytes) kind a b))
+stateLeaves bytes kind a b = cond (ltb (length bytes) (tailLength wide)) bytes (steppedLeaves bytes (singleStep (tailAt wide bytes) kind a b))

@@ -25,7 +25,7 @@ ghost use Rattle.schedule.specs.Reader.{readerAnswers};
 ghost use Rattle.writer.specs.Writer.{writtenHands, writerAnswers, writerLeaves};
 ghost use Rattle.marker.specs.Run.{runAnswers, runLeaves};
 ghost use Rattle.listing.specs.Listing.{listAnswers, listLeaves};
-ghost use Rattle.export.specs.Packed.{packed, fourBytes, readPacked, answerPacked, entryPacked, beforeOf, pairOf};
+ghost use Rattle.export.specs.Packed.{packed, fourBytes, sevenBytes, readPacked, answerPacked, entryPacked, beforeOf, pairOf};
 
 // A refusal's number or 0 in the upper 32 bits, what is handed over with it in the lower ones.
 fn pack(number: u32, value: usize) -> u64
@@ -39,6 +39,13 @@ pub fn four(a: u32, b: u32, c: u32, d: u32) -> u32
     ensures { λ x. ⌜ x ≡ fourBytes a b c d ⌝ }
 {
     a % 256 + 256 * (b % 256) + 65536 * (c % 256) + 16777216 * (d % 256)
+}
+
+// Three numbers below 256 and one of four bytes in one, the first lowest.
+fn seven(a: u32, b: u32, c: u32, x: u32) -> u64
+    ensures { λ y. ⌜ y ≡ sevenBytes a b c x ⌝ }
+{
+    four(a, b, c, 0) as u64 + 16777216 * (x as u64)
 }
 
 fn pack_written(w: Written) -> u64
@@ -56,14 +63,14 @@ fn pack_read(r: Read) -> u64
     match r {
         Read::Record(found, length) => {
             let kind = found.kind;
-            four(
+            seven(
                 kind.number(),
                 found.first,
-                found.second,
                 (length % 256) as u32,
-            ) as u64
+                found.second,
+            )
         }
-        Read::Refused(k, place) => pack(k, place),
+        Read::Refused(k, place) => seven(0, k, 0, (place % 4294967296) as u32),
     }
 }
 
@@ -109,7 +116,7 @@ fn before(told: u32, n: u32, votes: u32) -> Before
         Before::Nothing
     } else {
         Before::Header(Header {
-            kind: Kind::Header,
+            kind: Kind::of(told),
             n: n,
             votes: votes,
         })
@@ -155,7 +162,7 @@ pub extern "C" fn compare_write(
     pack_written(write_record(buffer, place as usize, kind, first, second))
 }
 
-// `told` is 0 where no header came before.
+// `told` is the number of the kind of the header that came before, 0 where none did.
 #[no_mangle]
 pub extern "C" fn compare_read(bytes: &[u8], told: u32, n: u32, votes: u32) -> u64
     ensures { λ x. ⌜ x ≡ readPacked (readerAnswers (now (bytes .entry)) (beforeOf told n votes)) ⌝ }

@@ -1,4 +1,4 @@
-// The single step on the bytes of a tail under header 01.
+// The single step on the bytes of a tail under header 0B, which holds a state with any n.
 use super::four;
 use form::TAIL;
 use form::form_of;
@@ -11,12 +11,12 @@ use tail::single::Stepped;
 ghost use mathlib.Core.Path.{_≡_};
 ghost use Prim.Native.Nat.{_≤_};
 ghost use lib.ListN.{length};
-ghost use Rattle.form.specs.Form.{narrow, tailLength};
+ghost use Rattle.form.specs.Form.{wide, tailLength};
 ghost use Rattle.export.specs.State.{steppedPacked, steppedLeaves, HandsTail, stateAnswers, stateLeaves};
 
 // Puts the next state where the step was taken. Answers the refusal's number, and the report byte above it.
 fn hand_over(state: &mut [u8], stepped: Stepped) -> u32
-    requires { ⌜ (tailLength narrow ≤ length (now state)) × HandsTail stepped ⌝ }
+    requires { ⌜ (tailLength wide ≤ length (now state)) × HandsTail stepped ⌝ }
     ensures { λ x. ⌜ (x ≡ steppedPacked stepped) × (now (state .exit) ≡ steppedLeaves (now (state .entry)) stepped) ⌝ }
 {
     let next = stepped.state;
@@ -25,7 +25,7 @@ fn hand_over(state: &mut [u8], stepped: Stepped) -> u32
         let release = next.release();
         let numbers = fields_of(release);
         let store = release.store;
-        put_tail(state, 0, &numbers, store, form_of(Kind::Header));
+        put_tail(state, 0, &numbers, store, form_of(Kind::WideHeader));
         return answer;
     }
     answer
@@ -38,6 +38,6 @@ pub extern "C" fn compare_single_step(state: &mut [u8], kind: u32, first: u32, s
     if state.len() < TAIL {
         return TOO_SHORT;
     }
-    let stepped = read_tail(state, form_of(Kind::Header)).single_step(kind, first, second);
+    let stepped = read_tail(state, form_of(Kind::WideHeader)).single_step(kind, first, second);
     hand_over(state, stepped)
 }

@@ -1,5 +1,5 @@
 -- A tail in range fits the form of its header: the statement RangeFits. Assumes nothing.
-use mathlib.Core.Path.{_≡_}
+use mathlib.Core.Path.{_≡_, refl}
 use mathlib.Core.Bool.{Bool, true, false, cond, _&&_}
 use Prim.Native.Nat.{ℕ, suc, _*_, _^_, _≤_, _<_}
 use native.Mathlib.Omega.{arith}
@@ -28,16 +28,19 @@ use Rattle.state.specs.Fields.{HasPlaces}
 use Rattle.tail.specs.Tail.{fieldsOf, tailOf, fieldsAt, headerOf, messagesInRange, recordsInRange, fieldsZero, participantInRange, countInRange, zeros}
 use Rattle.tail.proofs.TailRange.{parties-in-range, calls-in-range, zero-fields, countable}
 use Rattle.form.specs.Types.{Kind, ParticipantFields, Release}
-use Rattle.form.specs.Form.{formOf, narrow, FormFits, participantLength, tailLength}
-use Rattle.form.specs.Kept.{HasFields, FieldsFit, RangeFits}
+use Rattle.form.specs.Form.{formOf, wide, FormFits, participantLength, tailLength}
+use Rattle.form.specs.Kept.{HasFields, FieldsFit, RangeFits, WideTail}
 use Rattle.form.proofs.Lengths.{product}
 
 pub form-fits : (k : Kind) → FormFits (formOf k)
 form-fits k = (omega (arith, room-most k), omega (arith, room-most k))
 
--- no tail is longer than that under header 01
-pub form-most : (k : Kind) → tailLength (formOf k) ≤ tailLength narrow
-form-most k = omega (arith, room-most k, product (room k) (room Kind.Header) (participantLength (formOf k .width)) (room-most k))
+-- no tail is longer than that under header 0B
+pub form-most : (k : Kind) → tailLength (formOf k) ≤ tailLength wide
+form-most k = omega (arith, room-most k, product (room k) (room Kind.WideHeader) (participantLength (formOf k .width)) (room-most k))
+
+pub wide-tail : WideTail
+wide-tail = (refl, refl, form-most)
 
 -- a mask of as many as the kind has room for has room in the form's bytes
 mask-fits : (k : Kind) (n m : ℕ) → n ≤ room k → within n m ≡ true → m < 256 ^ formOf k .width

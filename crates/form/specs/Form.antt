@@ -22,6 +22,10 @@ formOf k = record { places = room k; width = (room k + 7) / 8 }
 abbrev pub narrow : Form
 narrow = formOf Kind.Header
 
+-- request 2026-03, under header 0B: 32 participants, a mask in four bytes
+abbrev pub wide : Form
+wide = formOf Kind.WideHeader
+
 -- a form that the code can read and put: no more participants than there are places, and a mask's bytes in one number
 abbrev pub FormFits : Form → Type 0
 FormFits f = (f .places ≤ places) × (f .width ≤ 4)

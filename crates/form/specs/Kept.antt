@@ -7,7 +7,7 @@ use Rattle.store.specs.Log.{places}
 use Rattle.rules.specs.State.{types}
 use Rattle.tail.specs.Tail.{zeros, tailInRange}
 use Rattle.form.specs.Types.{Kind, ParticipantFields, Tail, Form}
-use Rattle.form.specs.Form.{formOf, narrow, numberWidth, countWidth, tailBytes, tailLength, tailAt}
+use Rattle.form.specs.Form.{formOf, narrow, wide, numberWidth, countWidth, tailBytes, tailLength, tailAt}
 
 -- a tail has a mask for each type of message, fields for each place, and a count for each party
 pub record HasFields (t : Tail) : Type 0 where
@@ -47,3 +47,7 @@ RangeFits = (k : Kind) (t : Tail) → HasFields t → tailInRange k t ≡ true �
 -- document 01's tail under header 01
 abbrev pub NarrowTail : Type 0
 NarrowTail = (narrow ≡ record { places = 8; width = 1 }) × (tailLength narrow ≡ 59)
+
+-- request 2026-03's tail under header 0B, and no tail is longer
+abbrev pub WideTail : Type 0
+WideTail = (wide ≡ record { places = 32; width = 4 }) × (tailLength wide ≡ 320) × ((k : Kind) → tailLength (formOf k) ≤ tailLength wide)

@@ -11,7 +11,7 @@ pub const NUMBER_WIDTH: usize = 1;
 pub const COUNT_WIDTH: usize = 2;
 
 // The most bytes that a tail has, in any form.
-pub const TAIL: usize = 59;
+pub const TAIL: usize = 320;
 
 // How many participants have fields in a tail, and how many bytes a mask has.
 pub struct Form {

@@ -8,7 +8,7 @@ use Rattle.text.specs.Text.{ascii, hexadecimal, refusalLine}
 use Rattle.text.specs.Put.{each}
 use Rattle.schedule.specs.Record.{longest}
 use Rattle.schedule.specs.Schedule.{Reading, Accepted, Refused, readSchedule}
-use Rattle.form.specs.Form.{narrow, tailLength}
+use Rattle.form.specs.Form.{wide, tailLength}
 use Rattle.marker.specs.Report.{reportBytes}
 use Rattle.frame.specs.Types.{Frame}
 
@@ -28,7 +28,7 @@ lineOf schedule = readingLine (readSchedule schedule)
 -- the most bytes that a report, a line and a frame have
 
 abbrev pub longestReport : ℕ
-longestReport = longest + tailLength narrow
+longestReport = longest + tailLength wide
 
 abbrev pub longestLine : ℕ
 longestLine = 2 * longestReport + 1

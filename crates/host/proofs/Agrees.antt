@@ -23,10 +23,10 @@ use Rattle.host.specs.Agrees.{leads, HostAgrees, HostAgreesReached}
 -- the numbers of a participant and of an event are in range, and lead to what those lead to
 
 module _ (n i : ℕ) (p : Participant) (e : Event) where
-  numbers-in-range : n ≤ room Kind.Header → i < n → Participant.inRange n i p ≡ true → eventInRange n e ≡ true
+  numbers-in-range : n ≤ room Kind.WideHeader → i < n → Participant.inRange n i p ≡ true → eventInRange n e ≡ true
       → hostInRange n (suc i) (Participant.stateNumber p) (Participant.heardOf p) (eventNumber e) (detailNumber e) (answerNumber e) ≡ true
   numbers-in-range l h q g =
-      and-true _ _ (and-true _ _ (le-leb 1 n (omega arith)) (le-leb n (room Kind.Header) l))
+      and-true _ _ (and-true _ _ (le-leb 1 n (omega arith)) (le-leb n (room Kind.WideHeader) l))
       (and-true _ _ (and-true _ _ (le-leb 1 (suc i) (omega arith)) (le-leb (suc i) n h))
       (and-true _ _ participant
       (and-true _ _ (are-numbers3 eventNumber detailNumber answerNumber eventOf event-numbers e) (ap (eventInRange n) (event-numbers .decoded e) ∙ g))))

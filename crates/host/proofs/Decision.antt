@@ -12,7 +12,7 @@ use Rattle.host.specs.Host.{hostInRange}
 use Rattle.host.specs.Decision.{HostTakes, HostTakesDecision}
 use Rattle.host.specs.Types.{Decision}
 
-module _ (out : List ℕ) (n own h : ℕ) (room : ltb (length out) 3 ≡ false) where
+module _ (out : List ℕ) (n own h : ℕ) (room : ltb (length out) 6 ≡ false) where
   in-3 : (d : Decision) → hostInRange n own 3 h 2 (decisionNumber d) 0 ≡ true → HostTakes out n own 3 h d
   in-3 Decision.Commit q = record { returns = rw (q, room) refl; leaves = rw (q, room) refl }
   in-3 Decision.Abort q = record { returns = rw (q, room) refl; leaves = rw (q, room) refl }
@@ -22,5 +22,5 @@ module _ (out : List ℕ) (n own h : ℕ) (room : ltb (length out) 3 ≡ false) 
   in-4 Decision.Abort q = record { returns = rw (q, room) refl; leaves = rw (q, room) refl }
 
 pub host-takes-decision : HostTakesDecision
-host-takes-decision out n own s h d (inl e) q room = rw e (in-3 out n own h (le-ltb (length out) 3 room) d (rw e at q))
-host-takes-decision out n own s h d (inr e) q room = rw e (in-4 out n own h (le-ltb (length out) 3 room) d (rw e at q))
+host-takes-decision out n own s h d (inl e) q room = rw e (in-3 out n own h (le-ltb (length out) 6 room) d (rw e at q))
+host-takes-decision out n own s h d (inr e) q room = rw e (in-4 out n own h (le-ltb (length out) 6 room) d (rw e at q))

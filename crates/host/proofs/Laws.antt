@@ -1,7 +1,7 @@
--- What numbers in range give the host's step: places that a mask has, and a next state whose numbers fit bytes. Assumes nothing.
+-- What numbers in range give the host's step: places that a mask has, and a next state whose numbers fit their bytes. Assumes nothing.
 use mathlib.Core.Path.{_≡_}
 use mathlib.Core.Bool.{true}
-use Prim.Native.Nat.{ℕ, _-_, _≤_, _<_}
+use Prim.Native.Nat.{ℕ, _-_, _^_, _≤_, _<_}
 use native.Mathlib.Omega.{arith}
 use lib.Pow.{pow-mono}
 use Rattle.number.proofs.Laws.{and-left, and-right}
@@ -14,8 +14,8 @@ use Rattle.rules.proofs.Ranges.{ParticipantInRange, participant-held, Guard, Gu
 use Rattle.kind.specs.Step.{numberInRange}
 use Rattle.kind.proofs.Numbers.{between}
 use Rattle.event.specs.Event.{eventOf, isEvent, isWritten, eventInRange}
-use Rattle.host.specs.Types.{Kind, Call, Sent, Participant, Transition, NotDue, To, Event}
-use Rattle.host.specs.Host.{answers, onEvent, hostInRange, hostTransition, HeardFits}
+use Rattle.host.specs.Types.{Kind, Call, Sent, Participant, Transition, To, Event}
+use Rattle.host.specs.Host.{answers, onEvent, hostInRange, hostTransition, heardWidth}
 
 -- a message's number fits a byte
 pub sent-small : (s : Sent) → sentNumber s < 256
@@ -25,7 +25,7 @@ sent-small (Sent.Sends m) = omega (arith, type-most m)
 -- the facts of numbers in range
 
 pub record Given (n own s h e d r : ℕ) : Type 0 where
-  pub size : n ≤ room Kind.Header
+  pub size : n ≤ room Kind.WideHeader
   pub first : 1 ≤ own
   pub last : own ≤ n
   pub participant : Participant.inRange n (own - 1) (Participant.participantOf s h) ≡ true
@@ -33,11 +33,11 @@ pub record Given (n own s h e d r : ℕ) : Type 0 where
 
 pub given : (n own s h e d r : ℕ) → hostInRange n own s h e d r ≡ true → Given n own s h e d r
 given n own s h e d r q =
-    let a = and-right (numberInRange 1 n (room Kind.Header)) _ q in
+    let a = and-right (numberInRange 1 n (room Kind.WideHeader)) _ q in
     let b = and-right (numberInRange 1 own n) _ a in
     let o = between 1 own n (and-left (numberInRange 1 own n) _ a) in
     record {
-      size = between 1 n (room Kind.Header) (and-left (numberInRange 1 n (room Kind.Header)) _ q) .1;
+      size = between 1 n (room Kind.WideHeader) (and-left (numberInRange 1 n (room Kind.WideHeader)) _ q) .1;
       first = o .0;
       last = o .1;
       participant = and-right (Participant.isParticipant s h) _ (and-left (Participant.numbersInRange n (own - 1) s h) _ b);
@@ -62,24 +62,22 @@ event-range n i l p k (Event.Answer log r) q =
     answers-range n i p (log - 1) (Participant.onAnswer n i p (log - 1) r) (Participant.pending i p (log - 1)) (pending-guarded i p (log - 1))
     (λ g. answer-range n i l p (log - 1) r (omega (arith, b .0, b .1)) g k)
 
-heard-below : (n i : ℕ) (p : Participant) → n ≤ room Kind.Header → ParticipantInRange n i p → Participant.heardOf p < 256
+heard-below : (n i : ℕ) (p : Participant) → n ≤ room Kind.WideHeader → ParticipantInRange n i p → Participant.heardOf p < 256 ^ heardWidth
 heard-below n i Participant.Waiting l k = omega arith
 heard-below n i Participant.VotingYes l k = omega arith
 heard-below n i Participant.Closing l k = omega arith
 heard-below n i Participant.Uncertain l k = omega arith
-heard-below n i (Participant.Terminating h) l k = omega (arith, k .below, pow-mono {i = n} {j = room Kind.Header} l)
+heard-below n i (Participant.Terminating h) l k = omega (arith, k .below, pow-mono {i = n} {j = room Kind.WideHeader} l)
 heard-below n i Participant.RecordingCommit l k = omega arith
 heard-below n i Participant.RecordingAbort l k = omega arith
 heard-below n i Participant.DoneCommit l k = omega arith
 heard-below n i Participant.DoneAbort l k = omega arith
 heard-below n i Participant.Down l k = omega arith
 
-fits-byte : (n i : ℕ) (t : Transition) → n ≤ room Kind.Header → ToInRange n i t → HeardFits t
-fits-byte n i NotDue l k = tt
-fits-byte n i (To p m) l k = heard-below n i p l k
-
-pub heard-fits : (n own s h e d r : ℕ) → hostInRange n own s h e d r ≡ true → HeardFits (hostTransition n own s h e d r)
-heard-fits n own s h e d r q =
+-- so the next one has room in its four bytes
+pub heard-fits : (n own s h e d r : ℕ) (p : Participant) (m : Sent) → hostInRange n own s h e d r ≡ true → hostTransition n own s h e d r ≡ To p m
+    → Participant.heardOf p < 256 ^ heardWidth
+heard-fits n own s h e d r p m q t =
     let g = given n own s h e d r q in
-    fits-byte n (own - 1) (hostTransition n own s h e d r) (g .size)
-    (event-range n (own - 1) (omega (arith, g .first, g .last)) (Participant.participantOf s h) (participant-held n (own - 1) (Participant.participantOf s h) (g .participant)) (eventOf e d r) (g .event))
+    let x = event-range n (own - 1) (omega (arith, g .first, g .last)) (Participant.participantOf s h) (participant-held n (own - 1) (Participant.participantOf s h) (g .participant)) (eventOf e d r) (g .event) in
+    heard-below n (own - 1) p (g .size) (rw t at x)

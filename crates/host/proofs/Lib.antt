@@ -1,4 +1,5 @@
 pub mod Laws
+pub mod Handed
 pub mod Agrees
 pub mod Cases
 pub mod Decision

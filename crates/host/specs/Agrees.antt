@@ -50,10 +50,10 @@ pub record Agrees (r : Release) (i : ℕ) : Type 0 where
 
 -- for every participant in range
 abbrev pub HostAgrees : Type 0
-HostAgrees = (r : Release) (i : ℕ) → r .n ≤ room Kind.Header → i < r .n → Participant.inRange (r .n) i (participantOf r i) ≡ true → Agrees r i
+HostAgrees = (r : Release) (i : ℕ) → r .n ≤ room Kind.WideHeader → i < r .n → Participant.inRange (r .n) i (participantOf r i) ≡ true → Agrees r i
 
 -- so for every one that a run reaches
 abbrev pub HostAgreesReached : Type 0
 HostAgreesReached =
-    (n votes : ℕ) → n ≤ room Kind.Header → within n votes ≡ true → (steps : List Step) → AllInRange n steps → (i : ℕ) → i < n
+    (n votes : ℕ) → n ≤ room Kind.WideHeader → within n votes ≡ true → (steps : List Step) → AllInRange n steps → (i : ℕ) → i < n
     → Agrees (after (fresh places n votes) steps) i

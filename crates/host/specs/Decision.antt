@@ -15,10 +15,10 @@ use Rattle.host.specs.Types.{Decision}
 -- state 5 or 6, nobody heard, nothing sent
 pub record HostTakes (out : List ℕ) (n own s h : ℕ) (d : Decision) : Type 0 where
   pub returns : hostReturns (length out) n own s h 2 (decisionNumber d) 0 ≡ 0
-  pub leaves : hostLeaves out n own s h 2 (decisionNumber d) 0 ≡ sets out 0 (recordingNumber d ∷ 0 ∷ 0 ∷ [])
+  pub leaves : hostLeaves out n own s h 2 (decisionNumber d) 0 ≡ sets out 0 (recordingNumber d ∷ 0 ∷ 0 ∷ 0 ∷ 0 ∷ 0 ∷ [])
 
--- for all numbers in range and every buffer of three bytes or more
+-- for all numbers in range and every buffer of six bytes or more
 abbrev pub HostTakesDecision : Type 0
 HostTakesDecision =
-    (out : List ℕ) (n own s h : ℕ) (d : Decision) → (s ≡ 3) ⊎ (s ≡ 4) → hostInRange n own s h 2 (decisionNumber d) 0 ≡ true → 3 ≤ length out
+    (out : List ℕ) (n own s h : ℕ) (d : Decision) → (s ≡ 3) ⊎ (s ≡ 4) → hostInRange n own s h 2 (decisionNumber d) 0 ≡ true → 6 ≤ length out
     → HostTakes out n own s h d

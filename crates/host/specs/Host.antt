@@ -1,11 +1,12 @@
 -- The host entry: one step of one participant, on numbers. Assumes nothing.
 use mathlib.Core.Bool.{Bool, cond, _&&_}
-use mathlib.Core.List.{List, [], _∷_}
-use Prim.Native.Nat.{ℕ, _-_, _<_}
+use mathlib.Core.List.{List, [], _∷_, _++_}
+use Prim.Native.Nat.{ℕ, _-_}
 use lib.Dec.{ltb}
 use lib.ListN.{length}
 use lib.Seq.{sets}
 use Rattle.number.specs.Refusal.{accepted, outOfRange, tooShort, notDue}
+use Rattle.number.specs.Low.{lowBytes}
 use Rattle.message.specs.Message.{sentNumber}
 use Rattle.participant.specs.Participant
 use Rattle.kind.specs.Kind.{room}
@@ -31,25 +32,24 @@ onEvent n own p Event.Crash = Participant.onCrash p
 onEvent n own p Event.Restart = Participant.onRestart p
 onEvent n own p (Event.Answer log r) = answered n own p (log - 1) r
 
--- n, own number, state, heard mask, event, detail, record: each in range, and n no more than header 01 has room for
+-- n, own number, state, heard mask, event, detail, record: each in range. Request 2026-03: n up to 32, and masks of 32 bits
 abbrev pub hostInRange : ℕ → ℕ → ℕ → ℕ → ℕ → ℕ → ℕ → Bool
 hostInRange n own s h e d r =
-    numberInRange 1 n (room Kind.Header) && (numberInRange 1 own n && (Participant.numbersInRange n (own - 1) s h && numbersInRange n e d r))
+    numberInRange 1 n (room Kind.WideHeader) && (numberInRange 1 own n && (Participant.numbersInRange n (own - 1) s h && numbersInRange n e d r))
 
 abbrev pub hostTransition : ℕ → ℕ → ℕ → ℕ → ℕ → ℕ → ℕ → Transition
 hostTransition n own s h e d r = onEvent n (own - 1) (Participant.participantOf s h) (eventOf e d r)
 
--- Three bytes come back: state, heard mask, message type sent or 0
+-- Request 2026-03: six bytes come back: state, heard mask in four, low byte first, message type sent or 0
+
 abbrev pub byteCount : ℕ
-byteCount = 3
+byteCount = 6
+
+abbrev pub heardWidth : ℕ
+heardWidth = 4
 
 abbrev pub bytesOf : Participant → Sent → List ℕ
-bytesOf p m = Participant.stateNumber p ∷ Participant.heardOf p ∷ sentNumber m ∷ []
-
--- the next heard mask fits a byte, as it does for all numbers in range (proofs/Laws.antt)
-abbrev pub HeardFits : Transition → Type 0
-HeardFits NotDue = Unit {0}
-HeardFits (To p m) = Participant.heardOf p < 256
+bytesOf p m = Participant.stateNumber p ∷ (lowBytes heardWidth (Participant.heardOf p) ++ (sentNumber m ∷ []))
 
 -- the number that a transition returns with a buffer of this length, and what it leaves in the buffer
 

@@ -2,3 +2,4 @@ pub mod Types
 pub mod Host
 pub mod Agrees
 pub mod Decision
+pub mod Handed

@@ -5,6 +5,7 @@ use kind::between;
 use number::NOT_DUE;
 use number::OUT_OF_RANGE;
 use number::TOO_SHORT;
+use number::low;
 use participant::Participant;
 use participant::Transition;
 use participant::to;
@@ -15,7 +16,7 @@ ghost use mathlib.Core.Bool.{true};
 ghost use Prim.Native.Nat.{_≤_, _<_};
 ghost use lib.ListN.{length};
 ghost use Rattle.event.specs.Event.{eventInRange};
-ghost use Rattle.host.specs.Host.{answers, answered, onEvent, hostInRange, HeardFits, returned, left, hostReturns, hostLeaves};
+ghost use Rattle.host.specs.Host.{answers, answered, onEvent, hostInRange, returned, left, hostReturns, hostLeaves};
 
 // An answer counts only where its call is pending.
 fn answers(c: Call, t: Transition) -> Transition
@@ -50,20 +51,24 @@ fn on_event(n: u32, place: u32, p: Participant, e: Event) -> Transition
     }
 }
 
-// The number to return, and the three bytes where that is 0.
+// How many bytes the heard mask has, and how many come back in all: the state, the heard mask, low byte first, and the message sent or 0.
+const HEARD_WIDTH: usize = 4;
+
+const STEP_BYTES: usize = 6;
+
+// The number to return, and the six bytes where that is 0.
 fn hand_over(t: Transition, out: &mut [u8]) -> u32
-    requires { ⌜ HeardFits t ⌝ }
     ensures { λ k. ⌜ (k ≡ returned (length (now (out .entry))) t) × (now (out .exit) ≡ left (now (out .entry)) t) ⌝ }
 {
     match t {
         Transition::NotDue => NOT_DUE,
         Transition::To(p, s) => {
-            if out.len() < 3 {
+            if out.len() < STEP_BYTES {
                 return TOO_SHORT;
             }
             out[0] = p.number() as u8;
-            out[1] = p.heard() as u8;
-            out[2] = s.number() as u8;
+            let end = low::put(out, 1, HEARD_WIDTH, p.heard());
+            out[end] = s.number() as u8;
             0
         }
     }
@@ -73,7 +78,7 @@ fn hand_over(t: Transition, out: &mut [u8]) -> u32
 fn in_range(n: u32, own: u32, state: u32, heard: u32, event: u32, detail: u32, answer: u32) -> bool
     ensures { λ b. ⌜ b ≡ hostInRange n own state heard event detail answer ⌝ }
 {
-    if between(1, n, Kind::NARROW) {
+    if between(1, n, Kind::WIDE) {
         if between(1, own, n) {
             if Participant::numbers_in_range(n, own - 1, state, heard) {
                 Event::numbers_in_range(n, event, detail, answer)

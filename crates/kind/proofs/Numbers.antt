@@ -1,7 +1,7 @@
 -- The numbers of kinds and steps and the ways back belong together, and what numbers in range are. Assumes nothing.
 use mathlib.Core.Path.{_≡_, refl, sym, ap, _∙_}
 use mathlib.Core.Bool.{true, false, true≢false, _&&_}
-use Prim.Native.Nat.{ℕ, _+_, _≤_}
+use Prim.Native.Nat.{ℕ, _*_, _^_, _≤_, _<_}
 use native.Mathlib.Omega.{arith}
 use lib.Dec.{leb, lit≤}
 use borrow.Author.Tests.{leb-true, le-leb}
@@ -10,7 +10,7 @@ use Rattle.number.proofs.Laws.{and-left, and-right, and-true, inverse, inverse3
 use Rattle.message.specs.Message.{typeNumber}
 use Rattle.message.proofs.Numbers.{message-numbers, type-most}
 use Rattle.kind.specs.Types.{Message, Kind, Step}
-use Rattle.kind.specs.Kind.{kindNumber, kindOf, bodyLength, isHeader, room}
+use Rattle.kind.specs.Kind.{kindNumber, kindOf, firstWidth, secondWidth, bodyLength, isHeader, room}
 use Rattle.kind.specs.Step.{stepKind, stepNumber, firstNumber, secondNumber, ofKind, stepOf, isStep, numberInRange, inRange, numbersInRange}
 
 kind-back : (k : Kind) → kindOf (kindNumber k) ≡ k
@@ -24,6 +24,7 @@ kind-back Kind.CallLost = refl
 kind-back Kind.Timeout = refl
 kind-back Kind.Crash = refl
 kind-back Kind.Restart = refl
+kind-back Kind.WideHeader = refl
 
 pub kind-numbers : Inverse kindNumber kindOf
 kind-numbers = inverse kindNumber kindOf kind-back
@@ -52,18 +53,19 @@ kind-encoded k a b q =
     let e = step-numbers .encoded (kindNumber k) a b q in
     (rw (kind-numbers .decoded k) at (e .1), rw (kind-numbers .decoded k) at (e .2))
 
--- a header has n and a mask
-pub header-body : (k : Kind) → isHeader k ≡ true → 2 ≤ bodyLength k
-header-body Kind.Header q = lit≤ tt
-header-body Kind.Start q = absurd (true≢false (sym q))
-header-body Kind.Deliver q = absurd (true≢false (sym q))
-header-body Kind.Copy q = absurd (true≢false (sym q))
-header-body Kind.Lose q = absurd (true≢false (sym q))
-header-body Kind.Call q = absurd (true≢false (sym q))
-header-body Kind.CallLost q = absurd (true≢false (sym q))
-header-body Kind.Timeout q = absurd (true≢false (sym q))
-header-body Kind.Crash q = absurd (true≢false (sym q))
-header-body Kind.Restart q = absurd (true≢false (sym q))
+-- a header has n, a byte, and a mask
+pub header-widths : (k : Kind) → isHeader k ≡ true → (firstWidth k ≡ 1) × (1 ≤ secondWidth k)
+header-widths Kind.Header q = (refl, lit≤ tt)
+header-widths Kind.Start q = absurd (true≢false (sym q))
+header-widths Kind.Deliver q = absurd (true≢false (sym q))
+header-widths Kind.Copy q = absurd (true≢false (sym q))
+header-widths Kind.Lose q = absurd (true≢false (sym q))
+header-widths Kind.Call q = absurd (true≢false (sym q))
+header-widths Kind.CallLost q = absurd (true≢false (sym q))
+header-widths Kind.Timeout q = absurd (true≢false (sym q))
+header-widths Kind.Crash q = absurd (true≢false (sym q))
+header-widths Kind.Restart q = absurd (true≢false (sym q))
+header-widths Kind.WideHeader q = (refl, lit≤ tt)
 
 pub step-no-header : (s : Step) → isHeader (stepKind s) ≡ false
 step-no-header Step.Start = refl
@@ -87,6 +89,7 @@ kind-of-step Kind.CallLost a b q = refl
 kind-of-step Kind.Timeout a b q = refl
 kind-of-step Kind.Crash a b q = refl
 kind-of-step Kind.Restart a b q = refl
+kind-of-step Kind.WideHeader a b q = cc
 
 -- the numbers of a step in range pass the test
 
@@ -97,9 +100,9 @@ step-tested n s q =
 pub between : (a k b : ℕ) → numberInRange a k b ≡ true → (a ≤ k) × (k ≤ b)
 between a k b q = (leb-true a k (and-left (leb a k) (leb k b) q), leb-true k b (and-right (leb a k) (leb k b) q))
 
--- a kind's number is a byte, and its body has at most two numbers
+-- a kind's number is a byte, and its body has a number of at most one byte and one of at most four
 
-pub kind-most : (k : Kind) → kindNumber k ≤ 10
+pub kind-most : (k : Kind) → kindNumber k ≤ 11
 kind-most Kind.Header = lit≤ tt
 kind-most Kind.Start = lit≤ tt
 kind-most Kind.Deliver = lit≤ tt
@@ -110,48 +113,65 @@ kind-most Kind.CallLost = lit≤ tt
 kind-most Kind.Timeout = lit≤ tt
 kind-most Kind.Crash = lit≤ tt
 kind-most Kind.Restart = lit≤ tt
+kind-most Kind.WideHeader = lit≤ tt
 
-pub body-most : (k : Kind) → bodyLength k ≤ 2
-body-most Kind.Header = lit≤ tt
-body-most Kind.Start = lit≤ tt
-body-most Kind.Deliver = lit≤ tt
-body-most Kind.Copy = lit≤ tt
-body-most Kind.Lose = lit≤ tt
-body-most Kind.Call = lit≤ tt
-body-most Kind.CallLost = lit≤ tt
-body-most Kind.Timeout = lit≤ tt
-body-most Kind.Crash = lit≤ tt
-body-most Kind.Restart = lit≤ tt
+pub first-most : (k : Kind) → firstWidth k ≤ 1
+first-most Kind.Header = lit≤ tt
+first-most Kind.Start = lit≤ tt
+first-most Kind.Deliver = lit≤ tt
+first-most Kind.Copy = lit≤ tt
+first-most Kind.Lose = lit≤ tt
+first-most Kind.Call = lit≤ tt
+first-most Kind.CallLost = lit≤ tt
+first-most Kind.Timeout = lit≤ tt
+first-most Kind.Crash = lit≤ tt
+first-most Kind.Restart = lit≤ tt
+first-most Kind.WideHeader = lit≤ tt
 
--- the numbers of a step in range: a type is at most 5, all others at most n
+pub second-most : (k : Kind) → secondWidth k ≤ 4
+second-most Kind.Header = lit≤ tt
+second-most Kind.Start = lit≤ tt
+second-most Kind.Deliver = lit≤ tt
+second-most Kind.Copy = lit≤ tt
+second-most Kind.Lose = lit≤ tt
+second-most Kind.Call = lit≤ tt
+second-most Kind.CallLost = lit≤ tt
+second-most Kind.Timeout = lit≤ tt
+second-most Kind.Crash = lit≤ tt
+second-most Kind.Restart = lit≤ tt
+second-most Kind.WideHeader = lit≤ tt
 
-message-bounds : (n : ℕ) (m : Message) (p : ℕ) → numberInRange 1 p n ≡ true → (typeNumber m ≤ 5 + n) × (p ≤ n)
-message-bounds n m p q = let x = between 1 p n q in let t = type-most m in (omega arith, omega arith)
+pub body-most : (k : Kind) → bodyLength k ≤ 5
+body-most k = omega (arith, first-most k, second-most k)
 
-call-bounds : (n p j : ℕ) → leb p n && numberInRange 1 j n ≡ true → (p ≤ 5 + n) × (j ≤ n)
-call-bounds n p j q =
-    let x = leb-true p n (and-left (leb p n) _ q) in
-    let y = between 1 j n (and-right (leb p n) _ q) in
-    (omega arith, omega arith)
+-- the numbers of a step in range, where n is a byte, fit the bytes of its body
 
-party-bounds : (n p : ℕ) → leb p n ≡ true → (p ≤ 5 + n) × (0 ≤ n)
-party-bounds n p q = let x = leb-true p n q in (omega arith, omega arith)
+message-fits : (n : ℕ) (m : Message) (p : ℕ) → n < 256 → numberInRange 1 p n ≡ true → (typeNumber m < 256 ^ 1) × (p < 256 ^ 1)
+message-fits n m p h q = (omega (arith, type-most m), omega (arith, between 1 p n q .1))
 
-step-bounds : (n : ℕ) (s : Step) → inRange n s ≡ true → (firstNumber s ≤ 5 + n) × (secondNumber s ≤ n)
-step-bounds n Step.Start q = (omega arith, omega arith)
-step-bounds n (Step.Deliver m p) q = message-bounds n m p q
-step-bounds n (Step.Copy m p) q = message-bounds n m p q
-step-bounds n (Step.Lose m p) q = message-bounds n m p q
-step-bounds n (Step.Call p j) q = call-bounds n p j q
-step-bounds n (Step.CallLost p j) q = call-bounds n p j q
-step-bounds n (Step.Timeout p) q = party-bounds n p q
-step-bounds n (Step.Crash p) q = party-bounds n p q
-step-bounds n (Step.Restart p) q = party-bounds n p q
+call-fits : (n p j : ℕ) → n < 256 → leb p n && numberInRange 1 j n ≡ true → (p < 256 ^ 1) × (j < 256 ^ 1)
+call-fits n p j h q = (omega (arith, leb-true p n (and-left (leb p n) _ q)), omega (arith, between 1 j n (and-right (leb p n) _ q) .1))
 
-pub numbers-bounds : (n k a b : ℕ) → numbersInRange n k a b ≡ true → (a ≤ 5 + n) × (b ≤ n)
-numbers-bounds n k a b q =
-    let e = step-numbers .encoded k a b (and-left (isStep k a b) _ q) in
-    rw (e .1, e .2) at (step-bounds n (stepOf k a b) (and-right (isStep k a b) _ q))
+party-fits : (n p : ℕ) → n < 256 → leb p n ≡ true → (p < 256 ^ 1) × (0 < 256 ^ 0)
+party-fits n p h q = (omega (arith, leb-true p n q), omega arith)
+
+step-fits : (n : ℕ) (s : Step) → n < 256 → inRange n s ≡ true → (firstNumber s < 256 ^ firstWidth (stepKind s)) × (secondNumber s < 256 ^ secondWidth (stepKind s))
+step-fits n Step.Start h q = (omega arith, omega arith)
+step-fits n (Step.Deliver m p) h q = message-fits n m p h q
+step-fits n (Step.Copy m p) h q = message-fits n m p h q
+step-fits n (Step.Lose m p) h q = message-fits n m p h q
+step-fits n (Step.Call p j) h q = call-fits n p j h q
+step-fits n (Step.CallLost p j) h q = call-fits n p j h q
+step-fits n (Step.Timeout p) h q = party-fits n p h q
+step-fits n (Step.Crash p) h q = party-fits n p h q
+step-fits n (Step.Restart p) h q = party-fits n p h q
+
+pub numbers-fit : (n : ℕ) (k : Kind) (a b : ℕ) → n < 256 → isHeader k ≡ false → numbersInRange n (kindNumber k) a b ≡ true
+    → (a < 256 ^ firstWidth k) × (b < 256 ^ secondWidth k)
+numbers-fit n k a b h z q =
+    let e = kind-encoded k a b (and-left (isStep (kindNumber k) a b) _ q) in
+    let ranged : inRange n (ofKind k a b) ≡ true = rw (kind-numbers .decoded k) at (and-right (isStep (kindNumber k) a b) _ q) in
+    rw (e .0, e .1, kind-of-step k a b z) at (step-fits n (ofKind k a b) h ranged)
 
 -- a step in range for n is in range for more
 
@@ -179,9 +199,9 @@ more-steps n m h (Step.Restart p) q = more-parties p n m h q
 pub more-tested : (n m : ℕ) → n ≤ m → (k a b : ℕ) → numbersInRange n k a b ≡ true → numbersInRange m k a b ≡ true
 more-tested n m h k a b q = and-true _ _ (and-left (isStep k a b) _ q) (more-steps n m h (stepOf k a b) (and-right (isStep k a b) _ q))
 
--- no kind has more room than header 01, and a kind with room is a header's
+-- no kind has more room than header 0B, a kind with room is a header's, and its mask has a bit for each of them
 
-pub room-most : (k : Kind) → room k ≤ room Kind.Header
+pub room-most : (k : Kind) → room k ≤ room Kind.WideHeader
 room-most Kind.Header = lit≤ tt
 room-most Kind.Start = lit≤ tt
 room-most Kind.Deliver = lit≤ tt
@@ -192,6 +212,20 @@ room-most Kind.CallLost = lit≤ tt
 room-most Kind.Timeout = lit≤ tt
 room-most Kind.Crash = lit≤ tt
 room-most Kind.Restart = lit≤ tt
+room-most Kind.WideHeader = lit≤ tt
+
+pub room-bits : (k : Kind) → room k ≤ 8 * secondWidth k
+room-bits Kind.Header = lit≤ tt
+room-bits Kind.Start = lit≤ tt
+room-bits Kind.Deliver = lit≤ tt
+room-bits Kind.Copy = lit≤ tt
+room-bits Kind.Lose = lit≤ tt
+room-bits Kind.Call = lit≤ tt
+room-bits Kind.CallLost = lit≤ tt
+room-bits Kind.Timeout = lit≤ tt
+room-bits Kind.Crash = lit≤ tt
+room-bits Kind.Restart = lit≤ tt
+room-bits Kind.WideHeader = lit≤ tt
 
 pub no-room : (k : Kind) → isHeader k ≡ false → room k ≡ 0
 no-room Kind.Header q = absurd (true≢false q)
@@ -204,3 +238,4 @@ no-room Kind.CallLost q = refl
 no-room Kind.Timeout q = refl
 no-room Kind.Crash q = refl
 no-room Kind.Restart q = refl
+no-room Kind.WideHeader q = absurd (true≢false q)

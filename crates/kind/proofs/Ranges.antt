@@ -65,6 +65,7 @@ first-ranged n Kind.CallLost a = party-ranged n a
 first-ranged n Kind.Timeout a = party-ranged n a
 first-ranged n Kind.Crash a = party-ranged n a
 first-ranged n Kind.Restart a = party-ranged n a
+first-ranged n Kind.WideHeader a = refl
 
 pub second-ranged : (n : ℕ) (k : Kind) (b : ℕ) → numberInRange (leastSecond k) b (greatestSecond n k) ≡ secondInRange n k b
 second-ranged n Kind.Header b = none-ranged b
@@ -77,6 +78,7 @@ second-ranged n Kind.CallLost b = refl
 second-ranged n Kind.Timeout b = none-ranged b
 second-ranged n Kind.Crash b = none-ranged b
 second-ranged n Kind.Restart b = none-ranged b
+second-ranged n Kind.WideHeader b = none-ranged b
 
 -- the test of both numbers is that of a step's
 pub kind-ranged : (n : ℕ) (k : Kind) (a b : ℕ) → firstInRange n k a && secondInRange n k b ≡ numbersInRange n (kindNumber k) a b
@@ -90,6 +92,7 @@ kind-ranged n Kind.CallLost a b = rw (itself a, itself b) refl
 kind-ranged n Kind.Timeout a b = rw (itself a) (other-order (leb a n) (eqb 0 b))
 kind-ranged n Kind.Crash a b = rw (itself a) (other-order (leb a n) (eqb 0 b))
 kind-ranged n Kind.Restart a b = rw (itself a) (other-order (leb a n) (eqb 0 b))
+kind-ranged n Kind.WideHeader a b = refl
 
 -- the number of no kind is that of no step
 pub unknown : (n k a b : ℕ) → isKind k ≡ false → numbersInRange n k a b ≡ false

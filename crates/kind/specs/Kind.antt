@@ -1,11 +1,11 @@
--- The kinds of records: the number of each, which is the first byte of a record, and the length of its body. Assumes nothing.
+-- The kinds of records: the number of each, which is the first byte of a record, and the two numbers of its body. Assumes nothing.
 use mathlib.Core.Bool.{Bool, true, false}
 use mathlib.Core.List.{[], _∷_}
-use Prim.Native.Nat.{ℕ}
+use Prim.Native.Nat.{ℕ, _+_}
 use Rattle.number.specs.Numbering.{numbered, isNumber}
 use Rattle.kind.specs.Types.{Kind}
 
--- document 01's table of kinds, 01 to 0A
+-- document 01's table of kinds, 01 to 0A; request 2026-03: header 0B
 abbrev pub kindNumber : Kind → ℕ
 kindNumber Kind.Header = 1
 kindNumber Kind.Start = 2
@@ -17,27 +17,47 @@ kindNumber Kind.CallLost = 7
 kindNumber Kind.Timeout = 8
 kindNumber Kind.Crash = 9
 kindNumber Kind.Restart = 10
+kindNumber Kind.WideHeader = 11
 
 abbrev pub kindOf : ℕ → Kind
 kindOf k =
     numbered kindNumber Kind.Header
-    (Kind.Start ∷ Kind.Deliver ∷ Kind.Copy ∷ Kind.Lose ∷ Kind.Call ∷ Kind.CallLost ∷ Kind.Timeout ∷ Kind.Crash ∷ Kind.Restart ∷ []) k
+    (Kind.Start ∷ Kind.Deliver ∷ Kind.Copy ∷ Kind.Lose ∷ Kind.Call ∷ Kind.CallLost ∷ Kind.Timeout ∷ Kind.Crash ∷ Kind.Restart ∷ Kind.WideHeader ∷ []) k
 
 abbrev pub isKind : ℕ → Bool
 isKind k = isNumber kindNumber kindOf k
 
--- n and vote mask; nothing; type and participant; party and log; party
+-- A body is a number and a second one: n and vote mask; nothing; type and participant; party and log; party. How many bytes each of them has:
+-- a number has one, the vote mask of header 0B four
+
+abbrev pub firstWidth : Kind → ℕ
+firstWidth Kind.Header = 1
+firstWidth Kind.Start = 0
+firstWidth Kind.Deliver = 1
+firstWidth Kind.Copy = 1
+firstWidth Kind.Lose = 1
+firstWidth Kind.Call = 1
+firstWidth Kind.CallLost = 1
+firstWidth Kind.Timeout = 1
+firstWidth Kind.Crash = 1
+firstWidth Kind.Restart = 1
+firstWidth Kind.WideHeader = 1
+
+abbrev pub secondWidth : Kind → ℕ
+secondWidth Kind.Header = 1
+secondWidth Kind.Start = 0
+secondWidth Kind.Deliver = 1
+secondWidth Kind.Copy = 1
+secondWidth Kind.Lose = 1
+secondWidth Kind.Call = 1
+secondWidth Kind.CallLost = 1
+secondWidth Kind.Timeout = 0
+secondWidth Kind.Crash = 0
+secondWidth Kind.Restart = 0
+secondWidth Kind.WideHeader = 4
+
 abbrev pub bodyLength : Kind → ℕ
-bodyLength Kind.Header = 2
-bodyLength Kind.Start = 0
-bodyLength Kind.Deliver = 2
-bodyLength Kind.Copy = 2
-bodyLength Kind.Lose = 2
-bodyLength Kind.Call = 2
-bodyLength Kind.CallLost = 2
-bodyLength Kind.Timeout = 1
-bodyLength Kind.Crash = 1
-bodyLength Kind.Restart = 1
+bodyLength k = firstWidth k + secondWidth k
 
 -- all other kinds are steps
 abbrev pub isHeader : Kind → Bool
@@ -51,6 +71,7 @@ isHeader Kind.CallLost = false
 isHeader Kind.Timeout = false
 isHeader Kind.Crash = false
 isHeader Kind.Restart = false
+isHeader Kind.WideHeader = true
 
 -- how many participants a header of that kind has room for; a step's kind has none
 abbrev pub room : Kind → ℕ
@@ -64,3 +85,4 @@ room Kind.CallLost = 0
 room Kind.Timeout = 0
 room Kind.Crash = 0
 room Kind.Restart = 0
+room Kind.WideHeader = 32

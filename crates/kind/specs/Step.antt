@@ -55,6 +55,7 @@ ofKind Kind.CallLost a b = Step.CallLost a b
 ofKind Kind.Timeout a b = Step.Timeout a
 ofKind Kind.Crash a b = Step.Crash a
 ofKind Kind.Restart a b = Step.Restart a
+ofKind Kind.WideHeader a b = Step.Start
 
 abbrev pub stepOf : ℕ → ℕ → ℕ → Step
 stepOf k a b = ofKind (kindOf k) a b
@@ -82,6 +83,7 @@ namesMessage Kind.CallLost = false
 namesMessage Kind.Timeout = false
 namesMessage Kind.Crash = false
 namesMessage Kind.Restart = false
+namesMessage Kind.WideHeader = false
 
 abbrev pub namesParty : Kind → Bool
 namesParty Kind.Header = false
@@ -94,6 +96,7 @@ namesParty Kind.CallLost = true
 namesParty Kind.Timeout = true
 namesParty Kind.Crash = true
 namesParty Kind.Restart = true
+namesParty Kind.WideHeader = false
 
 abbrev pub namesPlace : Kind → Bool
 namesPlace Kind.Header = false
@@ -106,6 +109,7 @@ namesPlace Kind.CallLost = true
 namesPlace Kind.Timeout = false
 namesPlace Kind.Crash = false
 namesPlace Kind.Restart = false
+namesPlace Kind.WideHeader = false
 
 -- and their ranges under n. Numbers that are not used are 0; a header is no step
 

@@ -1,7 +1,7 @@
 // What a schedule is made of: kinds with the length of their body, and steps with their numbers.
 use message::Message;
 ghost use mathlib.Core.Path.{_≡_};
-ghost use Rattle.kind.specs.Kind.{kindNumber, kindOf, bodyLength, isHeader, room};
+ghost use Rattle.kind.specs.Kind.{kindNumber, kindOf, firstWidth, secondWidth, bodyLength, isHeader, room};
 ghost use Rattle.kind.specs.Step.{ofKind, numberInRange, namesMessage, namesParty, namesPlace, leastFirst, greatestFirst, leastSecond, greatestSecond, firstInRange, secondInRange, numbersInRange};
 
 // The kind of a record.
@@ -16,6 +16,7 @@ pub enum Kind {
     Timeout,
     Crash,
     Restart,
+    WideHeader,
 }
 
 // A step, by its kind. A message goes by its type and participant, a call by its party and log; participants, parties and logs are numbers.
@@ -32,15 +33,19 @@ pub enum Step {
 }
 
 impl Kind {
-    // How many numbers a body has, each a byte.
-    pub const NO_NUMBER: usize = 0;
+    // How many bytes a number of a body has: none where the body lacks it, one, or the four of a mask; and the most that a body has.
+    pub const NONE: usize = 0;
 
-    pub const ONE_NUMBER: usize = 1;
+    pub const NUMBER: usize = 1;
 
-    pub const TWO_NUMBERS: usize = 2;
+    pub const MASK: usize = 4;
 
-    // How many participants a header of kind 01 has room for.
+    pub const LONGEST_BODY: usize = Kind::NUMBER + Kind::MASK;
+
+    // How many participants a header of kind 01 has room for, and one of kind 0B, which has the most.
     pub const NARROW: u32 = 8;
+
+    pub const WIDE: u32 = 32;
 
     // Its number.
     pub fn number(self) -> u32
@@ -57,6 +62,7 @@ impl Kind {
             Kind::Timeout => 8,
             Kind::Crash => 9,
             Kind::Restart => 10,
+            Kind::WideHeader => 11,
         }
     }
 
@@ -74,23 +80,53 @@ impl Kind {
             8 => Kind::Timeout,
             9 => Kind::Crash,
             10 => Kind::Restart,
+            11 => Kind::WideHeader,
             _ => Kind::Header,
         }
     }
 
-    // The length of the body of a kind. 2 is the start; the other kinds up to 7 have two numbers. Tests of the number stand in place
-    // of a case for each kind: kinds come in any order, so a jump by the kind would often be guessed wrong, and these tests need none.
+    // How many bytes the first number of its body has, and the second.
+    pub fn first_width(self) -> usize
+        ensures { λ w. ⌜ w ≡ firstWidth self ⌝ }
+    {
+        match self {
+            Kind::Header => Kind::NUMBER,
+            Kind::Start => Kind::NONE,
+            Kind::Deliver => Kind::NUMBER,
+            Kind::Copy => Kind::NUMBER,
+            Kind::Lose => Kind::NUMBER,
+            Kind::Call => Kind::NUMBER,
+            Kind::CallLost => Kind::NUMBER,
+            Kind::Timeout => Kind::NUMBER,
+            Kind::Crash => Kind::NUMBER,
+            Kind::Restart => Kind::NUMBER,
+            Kind::WideHeader => Kind::NUMBER,
+        }
+    }
+
+    pub fn second_width(self) -> usize
+        ensures { λ w. ⌜ w ≡ secondWidth self ⌝ }
+    {
+        match self {
+            Kind::Header => Kind::NUMBER,
+            Kind::Start => Kind::NONE,
+            Kind::Deliver => Kind::NUMBER,
+            Kind::Copy => Kind::NUMBER,
+            Kind::Lose => Kind::NUMBER,
+            Kind::Call => Kind::NUMBER,
+            Kind::CallLost => Kind::NUMBER,
+            Kind::Timeout => Kind::NONE,
+            Kind::Crash => Kind::NONE,
+            Kind::Restart => Kind::NONE,
+            Kind::WideHeader => Kind::MASK,
+        }
+    }
+
+    // The length of the body of a kind.
     pub fn body(k: Kind) -> usize
         ensures { λ m. ⌜ m ≡ bodyLength k ⌝ }
     {
-        let number = k.number();
-        if number == 2 {
-            Kind::NO_NUMBER
-        } else if number <= 7 {
-            Kind::TWO_NUMBERS
-        } else {
-            Kind::ONE_NUMBER
-        }
+        k.first_width() + k.second_width()
     }
 
     pub fn is_header(self) -> bool
@@ -107,6 +143,7 @@ impl Kind {
             Kind::Timeout => false,
             Kind::Crash => false,
             Kind::Restart => false,
+            Kind::WideHeader => true,
         }
     }
 
@@ -125,6 +162,7 @@ impl Kind {
             Kind::Timeout => 0,
             Kind::Crash => 0,
             Kind::Restart => 0,
+            Kind::WideHeader => Kind::WIDE,
         }
     }
 }
@@ -147,7 +185,7 @@ impl Kind {
     fn names_party(self) -> bool
         ensures { λ b. ⌜ b ≡ namesParty self ⌝ }
     {
-        6 <= self.number()
+        between(6, self.number(), 10)
     }
 
     // Whether the second one is a participant or a log.
@@ -236,6 +274,7 @@ impl Step {
             Kind::Timeout => Step::Timeout(a),
             Kind::Crash => Step::Crash(a),
             Kind::Restart => Step::Restart(a),
+            Kind::WideHeader => Step::Start,
         }
     }
 

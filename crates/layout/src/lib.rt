@@ -84,7 +84,7 @@ fn put_participants(
     let many = form.places;
     let mut at = place;
     for i in 0..many {
-        let log = store.log_at(i);
+        let log = store.logs[i];
         at = put_participant(
             report,
             at,

@@ -8,39 +8,29 @@ use lib.Dec.{ltb}
 use lib.ListN.{length, take, length-append}
 use lib.Seq.{sets, length-sets}
 use borrow.Author.Tests.{le-ltb}
-use Rattle.number.specs.Refusal.{outOfRange, tooShort}
+use Rattle.number.specs.Refusal.{tooShort}
+use Rattle.store.specs.Log.{places}
 use Rattle.text.specs.Put.{Put}
 use Rattle.text.proofs.Laws.{decimal-length, refusal-length}
 use Rattle.text.proofs.Putting.{put-front}
-use Rattle.schedule.specs.declared.reader.Before.{Before}
 use Rattle.schedule.specs.Record.{longest}
-use Rattle.schedule.specs.Schedule.{Reading, Accepted, Refused, readSchedule, scheduleBytes, stepsBytes}
-use Rattle.schedule.specs.RoundTrip.{RefusalOf, too-long, at-header, at-step}
-use Rattle.kind.specs.Kind.{room}
-use Rattle.kind.proofs.Numbers.{header-body}
-use Rattle.schedule.proofs.Laws.{header-is}
-use Rattle.schedule.proofs.Reading.{refused-number, SaysWhole, read-says, header-more, steps-few}
+use Rattle.schedule.specs.Schedule.{Reading, Accepted, Refused, readSchedule, stepsBytes}
+use Rattle.kind.proofs.Numbers.{header-widths}
+use Rattle.schedule.proofs.Laws.{header-is, header-size}
+use Rattle.schedule.proofs.Reading.{SaysWhole, read-says, header-more, steps-few}
 use Rattle.rules.specs.Run.{reports, after}
 use Rattle.passes.specs.Pass.{freshOf, stepBytes}
 use Rattle.passes.proofs.Passed.{bytes-length}
-use Rattle.listing.specs.Types.{Kind, Step, Header, Written}
+use Rattle.listing.specs.Types.{Step, Header, Written}
 use Rattle.listing.specs.Listing.{stepLines, endLines, readingText, listing, longestText, ListingFits, listAnswers, listLeaves}
 use Rattle.lines.proofs.LineLaws.{lines-few}
 use Rattle.listing.proofs.Laws.{lines-reports, end-few}
-use Rattle.listing.proofs.Listed.{header-most, run-n}
+use Rattle.listing.proofs.Listed.{run-n}
 use Rattle.passes.proofs.Begun.{run-calls}
-
--- a refusal's number and place
-
-refusal-small : {bytes : List ℕ} {k place : ℕ} → RefusalOf bytes k place → (k ≤ outOfRange) × (place ≤ longest)
-refusal-small (too-long h) = (omega arith, omega arith)
-refusal-small {bytes} (at-header {k} fits e) = (refused-number bytes Before.Nothing k 0 e, omega arith)
-refusal-small {bytes} (at-step {k} h steps rest fits g q split some e) =
-    (refused-number rest (Before.Header h) k 0 e, omega (arith, ap length split, length-append (scheduleBytes h steps) rest))
 
 -- a run over fewer steps than the longest schedule has bytes
 
-run-fits : (h : Header) (steps : List Step) → h .n ≤ room Kind.Header → length steps + 3 ≤ longest → length (readingText (Accepted h steps)) ≤ longestText
+run-fits : (h : Header) (steps : List Step) → h .n ≤ places → length steps + 3 ≤ longest → length (readingText (Accepted h steps)) ≤ longestText
 run-fits h steps small few =
     let lines = lines-few 1 (stepBytes (freshOf h) steps) (omega (arith, bytes-length (freshOf h) steps)) in
     let last = end-few (after (freshOf h) steps) (run-n h steps small) (λ p. omega (arith, run-calls h steps p)) in
@@ -55,10 +45,11 @@ pub listing-fits : ListingFits
 listing-fits schedule = go (readSchedule schedule) (read-says schedule)
   where
     go : (x : Reading) → SaysWhole schedule x → length (readingText x) ≤ longestText
-    go (Accepted h steps) y = run-fits h steps (header-most h (y .1)) (omega (arith, ap length (y .0), steps-few steps, header-more h (stepsBytes steps), header-body (h .kind) (header-is h (y .1)), y .3))
+    go (Accepted h steps) y =
+        run-fits h steps (header-size h (y .header) .1)
+        (omega (arith, y .long, steps-few steps, header-more h (stepsBytes steps), header-widths (h .kind) (header-is h (y .header)), y .short))
     go (Refused k place) y =
-        let small = refusal-small y in
-        omega (arith, refusal-length k place, decimal-length 5 k (omega arith) (omega arith), decimal-length 5 place (omega arith) (omega arith))
+        omega (arith, y .number, y .near, refusal-length k place, decimal-length 5 k (omega arith) (omega arith), decimal-length 5 place (omega arith) (omega arith))
 
 -- In such a text a listing is never refused, and stands at the front
 

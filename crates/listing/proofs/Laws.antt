@@ -9,13 +9,12 @@ use lib.ListN.{length, getD, take, length-append}
 use Rattle.text.specs.Text.{ascii, decimal}
 use Rattle.text.specs.Put.{each}
 use Rattle.text.proofs.Laws.{decimal-length}
-use Rattle.kind.specs.Kind.{room}
 use Rattle.rules.specs.Report.{stepByte}
 use Rattle.rules.proofs.Bytes.{byte-says}
-use Rattle.store.specs.Log.{empty}
+use Rattle.store.specs.Log.{empty, places}
 use Rattle.lines.specs.Lines.{outcomeText, closedText, reportText, countText, logText, byteText, byteLines}
 use Rattle.lines.proofs.Laws.{log-three}
-use Rattle.listing.specs.Types.{Kind, Release, Outcome, Report}
+use Rattle.listing.specs.Types.{Release, Outcome, Report}
 use Rattle.listing.specs.Listing.{stepLines, callsLine, logsLine, endLines}
 
 -- A byte's line is its report's
@@ -52,7 +51,7 @@ module _ (r : Release) where
       omega (arith, length-append (callsLine r) (logsLine r), length-append counts (ascii "\n"), length-append logs (ascii "\n"))
 
   -- the last lines are short where the counts have at most five digits
-  pub end-few : r .n ≤ room Kind.Header → ((p : ℕ) → getD (r .calls) p 0 < 100000) → length (endLines r) ≤ 89
+  pub end-few : r .n ≤ places → ((p : ℕ) → getD (r .calls) p 0 < 100000) → length (endLines r) ≤ 305
   end-few small few =
       omega (
         arith,

@@ -1,6 +1,5 @@
 -- What is left in a text, by the parts put into it and by what the first pass answered. Assumes nothing.
 use mathlib.Core.Path.{_≡_, refl, sym, ap, ap₂, _∙_}
-use mathlib.Core.Bool.{true}
 use mathlib.Core.List.{List, _++_}
 use Prim.Native.Nat.{ℕ, _+_, _≤_, _<_}
 use native.Mathlib.Omega.{arith}
@@ -11,11 +10,8 @@ use Rattle.number.specs.Refusal.{tooShort}
 use Rattle.text.specs.Put.{Put}
 use Rattle.text.proofs.Putting.{put-front}
 use Rattle.store.specs.Log.{places}
-use Rattle.kind.specs.Kind.{room}
 use Rattle.schedule.specs.Schedule.{Reading, Accepted, Refused, readSchedule}
-use Rattle.schedule.specs.Record.{headerInRange}
-use Rattle.kind.proofs.Numbers.{room-most}
-use Rattle.schedule.proofs.Laws.{header-room}
+use Rattle.schedule.proofs.Laws.{header-size}
 use Rattle.rules.specs.Run.{reports, after}
 use Rattle.rules.proofs.Room.{after-room}
 use Rattle.state.specs.Fields.{fields, releaseIn}
@@ -23,7 +19,7 @@ use Rattle.state.proofs.Filling.{release-in}
 use Rattle.passes.specs.Pass.{validated, stepsOf, freshOf, stepBytes}
 use Rattle.passes.proofs.Passed.{passed, bytes-length}
 use Rattle.passes.proofs.Begun.{run-places, run-calls}
-use Rattle.listing.specs.Types.{Kind, Step, Header, Written, Release, Store, Validated}
+use Rattle.listing.specs.Types.{Step, Header, Written, Release, Store, Validated}
 use Rattle.text.specs.Text.{refusalLine}
 use Rattle.listing.specs.Listing.{endLines, readingText, listing}
 use Rattle.lines.specs.Lines.{byteLines}
@@ -40,24 +36,20 @@ module _ (text bytes : List ℕ) (needed : ℕ) (e : needed ≡ length bytes) wh
       → (Written.Done needed ≡ textAnswer (length text) bytes) × (after ≡ textLeft text bytes)
   text-fits h p = rw e (simp (le-ltb (length text) (length bytes) (omega arith)) (refl, p .leaves))
 
--- no header has more participants than header 01 has room for
-pub header-most : (h : Header) → headerInRange h ≡ true → h .n ≤ room Kind.Header
-header-most h q = omega (arith, header-room h q .1, room-most (h .kind))
-
 -- a run keeps its header's n
-pub run-n : (h : Header) (steps : List Step) → h .n ≤ room Kind.Header → after (freshOf h) steps .n ≤ room Kind.Header
+pub run-n : (h : Header) (steps : List Step) → h .n ≤ places → after (freshOf h) steps .n ≤ places
 run-n h steps small = rw (after-room (freshOf h) steps .same-n) small
 
 -- A schedule that was validated, and one that was refused
 
 module _ (s : List ℕ) (h : Header) (m : ℕ) (c : validated (readSchedule s) ≡ Validated.Steps h m) where
   -- the release that its steps leave has short last lines
-  pub run-small : (r : Release) → r ≡ after (freshOf h) (stepsOf (readSchedule s)) → (r .n ≤ places) × (length (endLines r) ≤ 89)
+  pub run-small : (r : Release) → r ≡ after (freshOf h) (stepsOf (readSchedule s)) → (r .n ≤ places) × (length (endLines r) ≤ 305)
   run-small r e =
       let x = passed s h m c in
       let steps : List Step = stepsOf (readSchedule s) in
-      let small = run-n h steps (header-most h (x .header)) in
-      rw e (omega arith, end-few (after (freshOf h) steps) small (λ p. omega (arith, run-calls h steps p, x .long, x .few, x .short)))
+      let small = run-n h steps (header-size h (x .header) .1) in
+      rw e (small, end-few (after (freshOf h) steps) small (λ p. omega (arith, run-calls h steps p, x .long, x .few, x .short)))
 
   -- the numbers and the store that its steps leave represent that release
   pub run-release : (l : List ℕ) (store : Store) → l ≡ fields (after (freshOf h) (stepsOf (readSchedule s))) → store ≡ after (freshOf h) (stepsOf (readSchedule s)) .store

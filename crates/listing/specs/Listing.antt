@@ -42,10 +42,10 @@ readingText (Refused k place) = refusalLine k place
 abbrev pub listing : List ℕ → List ℕ
 listing schedule = readingText (readSchedule schedule)
 
--- a text of this length has room for every listing: 32,765 lines of at most 20 bytes, then at most 60 and 29. Proved in proofs/Fits.antt
+-- a text of this length has room for every listing: 32,765 lines of at most 20 bytes, then at most 204 and 101. Proved in proofs/Fits.antt
 
 abbrev pub longestText : ℕ
-longestText = 655389
+longestText = 655605
 
 abbrev pub ListingFits : Type 0
 ListingFits = (schedule : List ℕ) → length (listing schedule) ≤ longestText

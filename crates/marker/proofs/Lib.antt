@@ -5,4 +5,5 @@ pub mod Steps
 pub mod Closed
 pub mod Counts
 pub mod Demand
+pub mod Headers
 pub mod Cases

@@ -2,4 +2,5 @@ pub mod Types
 pub mod Report
 pub mod Run
 pub mod Demand
+pub mod Headers
 pub mod Cases

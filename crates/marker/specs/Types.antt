@@ -2,6 +2,7 @@
 pub use Rattle.store.specs.declared.LogRecord.{LogRecord}
 pub use Rattle.store.specs.declared.LogPair.{LogPair}
 pub use Rattle.participant.specs.declared.Participant.{Participant}
+pub use Rattle.kind.specs.declared.Kind.{Kind}
 pub use Rattle.kind.specs.declared.Step.{Step}
 pub use Rattle.schedule.specs.declared.Header.{Header}
 pub use Rattle.schedule.specs.declared.Record.{Record}

@@ -66,6 +66,15 @@ low-done buffer buffer₀ place width i rest x h e =
     let a : width - i ≡ 0 = omega arith in
     sym (ap (λ w. sets buffer (place + i) (lowBytes w rest)) a) ∙ e
 
+-- four of them put one by one
+pub low-four : (buffer : List ℕ) (place x : ℕ)
+    → set (set (set (set buffer place (x % 256)) (place + 1) (x / 256 % 256)) (place + 2) (x / 256 / 256 % 256)) (place + 3) (x / 256 / 256 / 256 % 256) ≡ sets buffer place (lowBytes 4 x)
+low-four buffer place x =
+    let one : place + 1 ≡ suc place = omega arith in
+    let two : place + 2 ≡ suc (suc place) = omega arith in
+    let three : place + 3 ≡ suc (suc (suc place)) = omega arith in
+    rw (one, two, three) refl
+
 -- the number that the bytes from i on hold, and its bound
 pub record Reads (bytes : List ℕ) (place width i x : ℕ) : Type 0 where
   pub within : i ≤ width

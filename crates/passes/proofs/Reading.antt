@@ -11,8 +11,8 @@ use Rattle.kind.specs.Step.{stepKind, inRange}
 use Rattle.schedule.specs.Record.{recordStep, recordLength}
 use Rattle.schedule.specs.Reader.{readerAnswers}
 use Rattle.schedule.specs.Schedule.{Reading, Accepted, Refused, withStep, stepsFrom}
-use Rattle.schedule.proofs.Records.{front-length, read-yielded, record-step}
-use Rattle.schedule.proofs.Reading.{first-step, refused-first, refused-at-first}
+use Rattle.schedule.proofs.Records.{read-yielded, record-step}
+use Rattle.schedule.proofs.Reading.{read-on, refused-first, refused-at-first}
 use Rattle.passes.specs.Types.{Step, Header, Record, Before, Read, Validated}
 use Rattle.passes.specs.Pass.{readingFrom, validatedAfter, stepsOf}
 
@@ -23,8 +23,7 @@ tail-part s at = take-all (length s - at) (drop at s) (simp length-drop (omega a
 -- a header that is read stands within the schedule
 pub header-read : (s : List ℕ) (r : Record) (l : ℕ) → readerAnswers s Before.Nothing ≡ Read.Record r l → l ≤ length s
 header-read s r l e =
-    let y = read-yielded s Before.Nothing r l e in
-    omega (arith, ap length (y .front) ∙ front-length r (drop l s), y .size)
+    read-yielded s Before.Nothing r l e .fits
 
 -- a record that is read: it stands within the schedule, its step is in range, and it comes first
 pub record First (s : List ℕ) (h : Header) (at : ℕ) (r : Record) (l : ℕ) : Type 0 where
@@ -42,19 +41,12 @@ module _ (s : List ℕ) (h : Header) (at : ℕ) (some : at < length s) where
   pub read-first : (r : Record) (l : ℕ) → readerAnswers (drop at s) (Before.Header h) ≡ Read.Record r l → First s h at r l
   read-first r l e =
       let y = read-yielded (drop at s) (Before.Header h) r l e in
-      let rest : List ℕ = drop l (drop at s) in
-      let long = ap length (y .front) ∙ front-length r rest in
-      let there : rest ≡ drop (at + l) s = drop-drop l at s in
       record {
         some = omega (arith, y .size);
         size = y .size ∙ ap (λ (x : Record). recordLength x) (sym (record-step h r (y .follows) .0));
-        within = omega (arith, y .size, long, length-drop at s, length-drop l (drop at s), some-left);
+        within = omega (arith, y .fits, length-drop at s);
         ranged = record-step h r (y .follows) .1;
-        first =
-            ap (λ b. stepsFrom h at b 0) (y .front)
-            ∙ first-step h at r rest (y .follows)
-            ∙ ap (λ n. withStep (recordStep r) (stepsFrom h (at + n) rest 0)) (sym (y .size))
-            ∙ ap (λ b. withStep (recordStep r) (stepsFrom h (at + l) b 0)) there;
+        first = read-on h at (drop at s) r l e ∙ ap (λ b. withStep (recordStep r) (stepsFrom h (at + l) b 0)) (drop-drop l at s);
       }
 
   pub read-refused : (k p : ℕ) → readerAnswers (drop at s) (Before.Header h) ≡ Read.Refused k p → readingFrom s h at ≡ Refused k at

@@ -8,10 +8,10 @@ use release::with_call;
 use release::without_call;
 use schedule::Header;
 use schedule::LONGEST;
-use schedule::reader::Before;
 use schedule::reader::Read;
 use schedule::reader::length_at;
-use schedule::reader::read_record;
+use schedule::reader::read_header;
+use schedule::reader::read_step;
 use schedule::reader::step_at;
 use state::FIELDS;
 use store::Store;
@@ -48,7 +48,7 @@ fn count_steps(schedule: &[u8], start: usize, header: Header) -> Validated
     let mut at = start;
     let mut steps: usize = 0;
     while at < schedule.len() {
-        let found = read_record(&schedule[at..], Before::Header(header));
+        let found = read_step(&schedule[at..], header);
         let Read::Record(_, size) = found else {
             return refused_at(at, found);
         };
@@ -65,7 +65,7 @@ pub fn validate(schedule: &[u8]) -> Validated
     if LONGEST < schedule.len() {
         return Validated::Refused(EMPTY_OR_TOO_LONG, 0);
     }
-    let found = read_record(schedule, Before::Nothing);
+    let found = read_header(schedule);
     let Read::Record(r, start) = found else {
         return refused_at(0, found);
     };

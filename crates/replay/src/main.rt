@@ -11,10 +11,10 @@ ghost use Prim.Native.Nat.{_+_, _-_, _≤_, _<_};
 ghost use lib.ListN.{length, take, drop};
 ghost use Rattle.frame.specs.Frame.{LinesOf, FramesThen, longestReport, longestLine, longestFrame};
 
-// Room for two frames and two lines of the greatest length.
-const INPUT: usize = 2 * FRAME;
+// Room for some frames and lines of the greatest length: the more, the fewer readings and writings.
+const INPUT: usize = 8 * FRAME;
 
-const OUTPUT: usize = 2 * LINE;
+const OUTPUT: usize = 8 * LINE;
 
 // Writes out the lines of these frames. Answers how many bytes the frames have, so that a caller passes over just what is written.
 fn write_lines(frames: &[u8], lines: &[u8]) -> usize

@@ -9,7 +9,7 @@ use lib.Dec.{eqb}
 use lib.ListN.{length, replicate}
 use Rattle.number.specs.Refusal.{Handed, hands, accepted, emptyOrTooLong, unknownKind, bodyCutShort, headerMisplaced, outOfRange}
 use Rattle.kind.specs.Step.{AllInRange}
-use Rattle.schedule.specs.Types.{Kind, Step, Header, Before}
+use Rattle.schedule.specs.Types.{Kind, Step, Header, Before, Read}
 use Rattle.schedule.specs.Reader.{readerAnswers, readHands}
 use Rattle.schedule.specs.Schedule.{Reading, Accepted, Refused, stepsFrom, readSchedule, stepsBytes, scheduleBytes}
 use Rattle.schedule.specs.RoundTrip.{too-long}
@@ -65,8 +65,29 @@ schedules =
     ∷ schedule (1 ∷ 2 ∷ 3 ∷ 6 ∷ 3 ∷ 1 ∷ []) outOfRange 3
     ∷ schedule (1 ∷ 2 ∷ 3 ∷ 8 ∷ 3 ∷ []) outOfRange 3
     -- the first refusal from the left
-    ∷ schedule (1 ∷ 1 ∷ 1 ∷ 2 ∷ 8 ∷ 2 ∷ 11 ∷ []) outOfRange 4
-    ∷ schedule (1 ∷ 1 ∷ 1 ∷ 2 ∷ 8 ∷ 1 ∷ 11 ∷ []) unknownKind 6
+    ∷ schedule (1 ∷ 1 ∷ 1 ∷ 2 ∷ 8 ∷ 2 ∷ 12 ∷ []) outOfRange 4
+    ∷ schedule (1 ∷ 1 ∷ 1 ∷ 2 ∷ 8 ∷ 1 ∷ 12 ∷ []) unknownKind 6
+    -- request 2026-03: header 0B with n 1 to 32 and votes within n; the 32nd vote is the highest bit of the last byte
+    ∷ schedule (11 ∷ 1 ∷ 1 ∷ 0 ∷ 0 ∷ 0 ∷ []) accepted 0
+    ∷ schedule (11 ∷ 9 ∷ 0 ∷ 1 ∷ 0 ∷ 0 ∷ []) accepted 0
+    ∷ schedule (11 ∷ 9 ∷ 0 ∷ 2 ∷ 0 ∷ 0 ∷ []) outOfRange 0
+    ∷ schedule (11 ∷ 31 ∷ 255 ∷ 255 ∷ 255 ∷ 127 ∷ []) accepted 0
+    ∷ schedule (11 ∷ 31 ∷ 0 ∷ 0 ∷ 0 ∷ 128 ∷ []) outOfRange 0
+    ∷ schedule (11 ∷ 32 ∷ 255 ∷ 255 ∷ 255 ∷ 255 ∷ []) accepted 0
+    ∷ schedule (11 ∷ 33 ∷ 0 ∷ 0 ∷ 0 ∷ 0 ∷ []) outOfRange 0
+    ∷ schedule (11 ∷ 0 ∷ 0 ∷ 0 ∷ 0 ∷ 0 ∷ []) outOfRange 0
+    -- cut anywhere in its body it is 3; a header of either kind later is 4, before 5
+    ∷ schedule (11 ∷ []) bodyCutShort 0
+    ∷ schedule (11 ∷ 33 ∷ []) bodyCutShort 0
+    ∷ schedule (11 ∷ 33 ∷ 0 ∷ 0 ∷ 0 ∷ []) bodyCutShort 0
+    ∷ schedule (1 ∷ 1 ∷ 1 ∷ 11 ∷ 0 ∷ 0 ∷ 0 ∷ 0 ∷ []) bodyCutShort 3
+    ∷ schedule (1 ∷ 1 ∷ 1 ∷ 11 ∷ 0 ∷ 0 ∷ 0 ∷ 0 ∷ 0 ∷ []) headerMisplaced 3
+    ∷ schedule (11 ∷ 1 ∷ 1 ∷ 0 ∷ 0 ∷ 0 ∷ 1 ∷ 0 ∷ 0 ∷ []) headerMisplaced 6
+    ∷ schedule (11 ∷ 1 ∷ 1 ∷ 0 ∷ 0 ∷ 0 ∷ 11 ∷ 0 ∷ 0 ∷ 0 ∷ 0 ∷ 0 ∷ []) headerMisplaced 6
+    -- participants, parties and logs up to 32 under it
+    ∷ schedule (11 ∷ 32 ∷ 0 ∷ 0 ∷ 0 ∷ 0 ∷ 3 ∷ 5 ∷ 32 ∷ 6 ∷ 32 ∷ 32 ∷ 8 ∷ 32 ∷ []) accepted 3
+    ∷ schedule (11 ∷ 32 ∷ 0 ∷ 0 ∷ 0 ∷ 0 ∷ 6 ∷ 33 ∷ 1 ∷ []) outOfRange 6
+    ∷ schedule (11 ∷ 32 ∷ 0 ∷ 0 ∷ 0 ∷ 0 ∷ 6 ∷ 0 ∷ 33 ∷ []) outOfRange 6
     ∷ []
 
 schedules-hold : allHold (λ c. same (readingHands (readSchedule (c .bytes))) (c .handed)) schedules ≡ true
@@ -98,28 +119,39 @@ longer-refused =
 
 record ReadCase : Type 0 where
   bytes : List ℕ
-  n : ℕ
-  votes : ℕ
+  told : Header
   handed : Handed
 
-abbrev read : List ℕ → ℕ → ℕ → ℕ → ℕ → ReadCase
-read bytes n votes k v = record { bytes = bytes; n = n; votes = votes; handed = hands k v }
+abbrev read : List ℕ → Kind → ℕ → ℕ → ℕ → ℕ → ReadCase
+read bytes kind n votes k v = record { bytes = bytes; told = record { kind = kind; n = n; votes = votes }; handed = hands k v }
 
 abbrev reads : List ReadCase
 reads =
     -- what follows the record is not looked at
-    read (8 ∷ 1 ∷ 255 ∷ 255 ∷ []) 1 0 accepted 2
-    ∷ read (2 ∷ 255 ∷ []) 8 255 accepted 1
+    read (8 ∷ 1 ∷ 255 ∷ 255 ∷ []) Kind.Header 1 0 accepted 2
+    ∷ read (2 ∷ 255 ∷ []) Kind.Header 8 255 accepted 1
     -- no bytes; a header told that is out of range is refused last
-    ∷ read [] 1 0 emptyOrTooLong 0
-    ∷ read (2 ∷ []) 0 0 outOfRange 0
-    ∷ read (2 ∷ []) 9 0 outOfRange 0
-    ∷ read (2 ∷ []) 4294967295 0 outOfRange 0
-    ∷ read (2 ∷ []) 1 2 outOfRange 0
-    ∷ read (11 ∷ []) 9 0 unknownKind 0
-    ∷ read (6 ∷ 1 ∷ []) 9 0 bodyCutShort 0
-    ∷ read (1 ∷ 1 ∷ 1 ∷ []) 9 0 headerMisplaced 0
+    ∷ read [] Kind.Header 1 0 emptyOrTooLong 0
+    ∷ read (2 ∷ []) Kind.Header 0 0 outOfRange 0
+    ∷ read (2 ∷ []) Kind.Header 9 0 outOfRange 0
+    ∷ read (2 ∷ []) Kind.Header 4294967295 0 outOfRange 0
+    ∷ read (2 ∷ []) Kind.Header 1 2 outOfRange 0
+    ∷ read (12 ∷ []) Kind.Header 9 0 unknownKind 0
+    ∷ read (6 ∷ 1 ∷ []) Kind.Header 9 0 bodyCutShort 0
+    ∷ read (1 ∷ 1 ∷ 1 ∷ []) Kind.Header 9 0 headerMisplaced 0
+    -- the kind of the header told gives it room; a step's kind is no header's
+    ∷ read (2 ∷ []) Kind.WideHeader 9 0 accepted 1
+    ∷ read (2 ∷ []) Kind.WideHeader 32 4294967295 accepted 1
+    ∷ read (2 ∷ []) Kind.WideHeader 33 0 outOfRange 0
+    ∷ read (2 ∷ []) Kind.WideHeader 31 2147483648 outOfRange 0
+    ∷ read (11 ∷ 1 ∷ 0 ∷ 0 ∷ 0 ∷ []) Kind.WideHeader 33 0 bodyCutShort 0
+    ∷ read (11 ∷ 1 ∷ 0 ∷ 0 ∷ 0 ∷ 0 ∷ []) Kind.WideHeader 33 0 headerMisplaced 0
+    ∷ read (2 ∷ []) Kind.Start 1 0 outOfRange 0
     ∷ []
 
-reads-hold : allHold (λ c. same (readHands (readerAnswers (c .bytes) (Before.Header (record { kind = Kind.Header; n = c .n; votes = c .votes })))) (c .handed)) reads ≡ true
+reads-hold : allHold (λ c. same (readHands (readerAnswers (c .bytes) (Before.Header (c .told)))) (c .handed)) reads ≡ true
 reads-hold = refl
+
+-- the four bytes of a mask, low byte first
+wide-read : readerAnswers (11 ∷ 20 ∷ 1 ∷ 2 ∷ 4 ∷ 0 ∷ []) Before.Nothing ≡ Read.Record (record { kind = Kind.WideHeader; first = 20; second = 262657 }) 6
+wide-read = refl

@@ -1,17 +1,18 @@
--- What tests of ranges tell: the numbers of a record in range are bytes. Assumes nothing.
+-- What tests of ranges tell: the numbers of a record in range fit the bytes that they have. Assumes nothing.
 use mathlib.Core.Path.{_≡_, refl}
 use mathlib.Core.Bool.{Bool, true, false, cond}
-use Prim.Native.Nat.{ℕ, _≤_, _<_}
+use Prim.Native.Nat.{ℕ, _*_, _^_, _≤_, _<_}
 use native.Mathlib.Omega.{arith}
-use lib.Pow.{pow-mono}
+use lib.Pow.{pow-mono, pow-pos}
 use borrow.Author.Tests.{leb-true}
 use Rattle.number.proofs.Laws.{and-left, and-right, and-true}
+use Rattle.number.proofs.LowBytes.{low-bits}
 use Rattle.mask.specs.Mask.{within, full}
 use Rattle.store.specs.Log.{places}
-use Rattle.kind.specs.Kind.{kindNumber, isHeader, room}
+use Rattle.kind.specs.Kind.{kindNumber, firstWidth, secondWidth, isHeader, room}
 use Rattle.kind.specs.Step.{numberInRange, numbersInRange}
-use Rattle.kind.proofs.Numbers.{between, numbers-bounds, room-most, no-room}
-use Rattle.schedule.specs.Types.{Kind, Header, Record, Before}
+use Rattle.kind.proofs.Numbers.{between, numbers-fit, header-widths, room-most, room-bits, no-room}
+use Rattle.schedule.specs.Types.{Header, Record, Before}
 use Rattle.schedule.specs.Record.{headerInRange, headerRecord, recordHeader, recordInRange}
 use Rattle.schedule.specs.RoundTrip.{mayFollow}
 
@@ -39,17 +40,17 @@ header-follows h q = and-true _ _ (header-is h q) (header-record 0 h q)
 pub header-votes : (h : Header) → headerInRange h ≡ true → within (h .n) (h .votes) ≡ true
 header-votes h q = and-right (numberInRange 1 (h .n) (room (h .kind))) _ q
 
-header-bytes : (h : Header) → headerInRange h ≡ true → (h .n < 256) × (h .votes < 256)
-header-bytes h q =
+header-fits : (h : Header) → headerInRange h ≡ true → (h .n < 256 ^ firstWidth (h .kind)) × (h .votes < 256 ^ secondWidth (h .kind))
+header-fits h q =
     let x = header-room h q in
     let y = leb-true (h .votes) (full (h .n)) (header-votes h q) in
-    let z : h .n ≤ room Kind.Header = omega (arith, room-most (h .kind)) in
-    (omega arith, omega (arith, pow-mono {i = h .n} {j = room Kind.Header} z))
+    let z = pow-mono {i = h .n} {j = 8 * secondWidth (h .kind)} (omega (arith, room-bits (h .kind))) in
+    (rw (header-widths (h .kind) (header-is h q) .0) (omega (arith, room-most (h .kind))), omega (arith, low-bits (secondWidth (h .kind)), pow-pos (h .n)))
 
-pub record-bytes : (n : ℕ) (r : Record) → n ≤ places → recordInRange n r ≡ true → (r .first < 256) × (r .second < 256)
-record-bytes n r small q = go (isHeader (r .kind)) q
+pub record-fits : (n : ℕ) (r : Record) → n ≤ places → recordInRange n r ≡ true → (r .first < 256 ^ firstWidth (r .kind)) × (r .second < 256 ^ secondWidth (r .kind))
+record-fits n r small q = go (isHeader (r .kind)) refl q
   where
-    go : (b : Bool) → cond b (headerInRange (recordHeader r)) (numbersInRange n (kindNumber (r .kind)) (r .first) (r .second)) ≡ true
-        → (r .first < 256) × (r .second < 256)
-    go true q = header-bytes (recordHeader r) q
-    go false q = let x = numbers-bounds n (kindNumber (r .kind)) (r .first) (r .second) q in (omega arith, omega arith)
+    go : (b : Bool) → isHeader (r .kind) ≡ b → cond b (headerInRange (recordHeader r)) (numbersInRange n (kindNumber (r .kind)) (r .first) (r .second)) ≡ true
+        → (r .first < 256 ^ firstWidth (r .kind)) × (r .second < 256 ^ secondWidth (r .kind))
+    go true e q = header-fits (recordHeader r) q
+    go false e q = numbers-fit n (r .kind) (r .first) (r .second) (omega arith) e q

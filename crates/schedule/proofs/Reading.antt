@@ -6,7 +6,7 @@ use Prim.Native.Nat.{ℕ, zero, suc, _+_, _-_, _≤_, _<_}
 use native.Mathlib.Omega.{arith}
 use native.Mathlib.Nat.{add-zero}
 use lib.Dec.{eqb, leb, ltb, lit≤}
-use lib.ListN.{length, getD, take, drop}
+use lib.ListN.{length, getD, drop, length-drop}
 use lib.Seq.{drop-at}
 use borrow.Author.Tests.{ltb-true, ltb-false, le-ltb}
 use Rattle.number.specs.Refusal.{emptyOrTooLong, outOfRange}
@@ -16,33 +16,42 @@ use Rattle.kind.specs.Step.{AllInRange}
 use Rattle.kind.proofs.Numbers.{kind-decoded}
 use Rattle.schedule.specs.Types.{Kind, Step, Header, Record, Before, Read}
 use Rattle.schedule.specs.Record.{headerRecord, recordHeader, stepRecord, recordStep, headerInRange, recordLength, recordBytes, longest}
-use Rattle.schedule.specs.Reader.{bodyNumber, isPlaced, inRangeAfter, kindAnswer, readerAnswers}
+use Rattle.schedule.specs.Reader.{recordAt, isPlaced, inRangeAfter, kindAnswer, readerAnswers}
 use Rattle.schedule.specs.Schedule.{Reading, Accepted, Refused, withStep, andThen, stepsFrom, stepsAfter, readSchedule, stepsBytes, scheduleBytes}
-use Rattle.schedule.specs.RoundTrip.{mayFollow, RefusalOf, too-long, at-header, at-step}
+use Rattle.schedule.specs.RoundTrip.{mayFollow, AllBytes, RefusalOf, too-long, at-header, at-step}
 use Rattle.schedule.proofs.Laws.{header-follows}
-use Rattle.schedule.proofs.Records.{record-length, front-length, read-front, read-yielded, step-follows, record-step}
+use Rattle.schedule.proofs.Records.{record-length, front-length, read-front, all-drop, read-yielded, step-follows, record-step}
 
 -- Reading on
 
 -- bytes that belong to the record before are passed over
-passed : (h : Header) (place : ℕ) (xs ys : List ℕ) → stepsFrom h place (xs ++ ys) (length xs) ≡ stepsFrom h (place + length xs) ys 0
+skipped : (h : Header) (place : ℕ) (bytes : List ℕ) (skip : ℕ) → stepsFrom h place bytes skip ≡ stepsFrom h (place + skip) (drop skip bytes) 0
 unfolding stepsFrom
-passed h place [] ys = rw (add-zero place) refl
-passed h place (x ∷ xs) ys =
-    let e : suc place + length xs ≡ place + suc (length xs) = omega arith in
-    passed h (suc place) xs ys ∙ ap (λ p. stepsFrom h p ys 0) e
+skipped h place [] zero = refl
+skipped h place [] (suc skip) = refl
+skipped h place (x ∷ bytes) zero = rw (add-zero place) refl
+skipped h place (x ∷ bytes) (suc skip) =
+    let e : suc place + skip ≡ place + suc skip = omega arith in
+    skipped h (suc place) bytes skip ∙ ap (λ p. stepsFrom h p (drop skip bytes) 0) e
+
+-- a record that the reader yields comes first, and then what follows it: no byte of it is looked at again
+pub read-on : (h : Header) (place : ℕ) (bytes : List ℕ) (r : Record) (l : ℕ) → readerAnswers bytes (Before.Header h) ≡ Read.Record r l
+    → stepsFrom h place bytes 0 ≡ withStep (recordStep r) (stepsFrom h (place + l) (drop l bytes) 0)
+unfolding stepsFrom
+read-on h place [] r l e = let z : _≡_ {A = ℕ} 0 1 = cc in absurd (omega arith)
+read-on h place (x ∷ bytes) r l e =
+    let y = read-yielded (x ∷ bytes) (Before.Header h) r l e in
+    let there : suc place + (l - 1) ≡ place + l = omega (arith, y .size) in
+    let cut : suc (l - 1) ≡ l = omega (arith, y .size) in
+    ap (λ y. andThen place y (stepsFrom h (suc place) bytes)) e
+    ∙ ap (withStep (recordStep r)) (skipped h (suc place) bytes (l - 1) ∙ ap₂ (λ (p : ℕ) (b : List ℕ). stepsFrom h p b 0) there (ap (λ k. drop k (x ∷ bytes)) cut))
 
 -- a record in range comes first, and then what follows its bytes
-pub first-step : (h : Header) (place : ℕ) (r : Record) (rest : List ℕ) → mayFollow (Before.Header h) r ≡ true
+first-step : (h : Header) (place : ℕ) (r : Record) (rest : List ℕ) → mayFollow (Before.Header h) r ≡ true
     → stepsFrom h place (recordBytes r ++ rest) 0 ≡ withStep (recordStep r) (stepsFrom h (place + recordLength r) rest 0)
-unfolding stepsFrom
 first-step h place r rest q =
-    let body : List ℕ = take (bodyLength (r .kind)) (r .first ∷ r .second ∷ []) in
-    let long : length body ≡ recordLength r - 1 = omega (arith, record-length r) in
-    let next : suc place + length body ≡ place + recordLength r = omega (arith, record-length r) in
-    ap (λ x. andThen place x (stepsFrom h (suc place) (body ++ rest))) (read-front (Before.Header h) r rest q)
-    ∙ ap (withStep (recordStep r))
-    (ap (stepsFrom h (suc place) (body ++ rest)) (sym long) ∙ passed h (suc place) body rest ∙ ap (λ p. stepsFrom h p rest 0) next)
+    read-on h place (recordBytes r ++ rest) r (recordLength r) (read-front (Before.Header h) r rest q)
+    ∙ ap (λ l. withStep (recordStep r) (stepsFrom h (place + recordLength r) l 0)) (drop-at (recordBytes r) rest (recordLength r) (record-length r))
 
 -- the same for a list of steps
 
@@ -97,7 +106,7 @@ at-first bytes before =
   where
     known : (k : Kind) → AtFirst (kindAnswer bytes before k)
     known k =
-        let r : Record = record { kind = k; first = bodyNumber bytes k 1; second = bodyNumber bytes k 2 } in
+        let r : Record = recordAt bytes k in
         either (leb (length bytes) (bodyLength k)) _ _ (refl, lit≤ tt)
         (either (isPlaced before k) _ _ (either (inRangeAfter before r) (Read.Record r (recordLength r)) _ tt (refl, lit≤ tt)) (refl, lit≤ tt))
 
@@ -112,41 +121,56 @@ record StoppedAt (h : Header) (place : ℕ) (bytes : List ℕ) (k at : ℕ) : Ty
   steps : List Step
   rest : List ℕ
   ranged : AllInRange (h .n) steps
-  split : bytes ≡ stepsBytes steps ++ rest
+  long : length bytes ≡ length (stepsBytes steps) + length rest
+  split : AllBytes bytes → bytes ≡ stepsBytes steps ++ rest
   some : 0 < length rest
   refused : readerAnswers rest (Before.Header h) ≡ Read.Refused k 0
   there : at ≡ place + length (stepsBytes steps)
 
 -- what a reading says of the bytes from a place on
 abbrev Says : Header → ℕ → List ℕ → Reading → Type 0
-Says h place bytes (Accepted g steps) = (g ≡ h) × AllInRange (h .n) steps × (stepsBytes steps ≡ bytes)
+Says h place bytes (Accepted g steps) =
+    (g ≡ h) × AllInRange (h .n) steps × (length (stepsBytes steps) ≡ length bytes) × (AllBytes bytes → stepsBytes steps ≡ bytes)
 Says h place bytes (Refused k at) = StoppedAt h place bytes k at
 
-says-more : (h : Header) (place : ℕ) (r : Record) (rest : List ℕ) → mayFollow (Before.Header h) r ≡ true → (x : Reading)
-    → Says h (place + recordLength r) rest x → Says h place (recordBytes r ++ rest) (withStep (recordStep r) x)
-says-more h place r rest q (Accepted g steps) y =
+-- a record that was read stands before the rest
+record StandsBefore (bytes : List ℕ) (r : Record) (rest : List ℕ) : Type 0 where
+  long : length bytes ≡ recordLength r + length rest
+  front : AllBytes bytes → bytes ≡ recordBytes r ++ rest
+  others : AllBytes bytes → AllBytes rest
+
+says-more : (h : Header) (place : ℕ) (bytes : List ℕ) (r : Record) (rest : List ℕ) → mayFollow (Before.Header h) r ≡ true → StandsBefore bytes r rest → (x : Reading)
+    → Says h (place + recordLength r) rest x → Says h place bytes (withStep (recordStep r) x)
+says-more h place bytes r rest q z (Accepted g steps) y =
     let s = record-step h r q in
-    (y .0, (s .1, y .1), ap₂ (λ (a : Record) (b : List ℕ). recordBytes a ++ b) (s .0) (y .2))
-says-more h place r rest q (Refused k at) y =
+    let same = ap (λ (a : Record). recordBytes a ++ stepsBytes steps) (s .0) in (
+      y .0,
+      (s .1, y .1),
+      omega (arith, ap length same, front-length r (stepsBytes steps), y .2, z .long),
+      λ b. same ∙ ap (λ l. recordBytes r ++ l) (y .3 (z .others b)) ∙ sym (z .front b),
+    )
+says-more h place bytes r rest q z (Refused k at) y =
     let s = record-step h r q in
-    let bytes = ap (λ (a : Record). recordBytes a ++ stepsBytes (y .steps)) (s .0) in
+    let same = ap (λ (a : Record). recordBytes a ++ stepsBytes (y .steps)) (s .0) in
     record {
       steps = recordStep r ∷ y .steps;
       rest = y .rest;
       ranged = (s .1, y .ranged);
-      split =
-          ap (λ l. recordBytes r ++ l) (y .split)
+      long = omega (arith, z .long, y .long, front-length r (stepsBytes (y .steps)), ap length same);
+      split = λ b.
+          z .front b
+          ∙ ap (λ l. recordBytes r ++ l) (y .split (z .others b))
           ∙ sym (append-assoc (recordBytes r) (stepsBytes (y .steps)) (y .rest))
-          ∙ ap (λ l. l ++ y .rest) (sym bytes);
+          ∙ ap (λ l. l ++ y .rest) (sym same);
       some = y .some;
       refused = y .refused;
-      there = y .there ∙ omega (arith, front-length r (stepsBytes (y .steps)), ap length bytes);
+      there = y .there ∙ omega (arith, front-length r (stepsBytes (y .steps)), ap length same);
     }
 
 says : (h : Header) (place : ℕ) (bytes : List ℕ) (skip : ℕ) → skip ≤ length bytes → Says h (place + skip) (drop skip bytes) (stepsFrom h place bytes skip)
 unfolding stepsFrom
-says h place [] zero fits = (refl, tt, refl)
-says h place [] (suc skip) fits = (refl, tt, refl)
+says h place [] zero fits = (refl, tt, refl, λ b. refl)
+says h place [] (suc skip) fits = (refl, tt, refl, λ b. refl)
 says h place (x ∷ bytes) (suc skip) fits =
     let e : suc place + skip ≡ place + suc skip = omega arith in
     rw e at (says h (suc place) bytes skip (omega arith))
@@ -158,17 +182,21 @@ says h place (x ∷ bytes) zero fits = rw (add-zero place) (read (readerAnswers 
     read (Read.Record r l) e next =
         let y = read-yielded (x ∷ bytes) (Before.Header h) r l e in
         let longer : l ≡ suc (l - 1) = omega (arith, y .size) in
-        let whole : x ∷ bytes ≡ recordBytes r ++ drop (l - 1) bytes = y .front ∙ ap (λ i. recordBytes r ++ drop i (x ∷ bytes)) longer in
-        let room : l - 1 ≤ length bytes = omega (arith, ap length (y .front), front-length r (drop l (x ∷ bytes)), y .size) in
+        let rest : drop l (x ∷ bytes) ≡ drop (l - 1) bytes = ap (λ i. drop i (x ∷ bytes)) longer in
         let there : suc place + (l - 1) ≡ place + recordLength r = omega (arith, y .size) in
-        rw whole (says-more h place r (drop (l - 1) bytes) (y .follows) (stepsFrom h (suc place) bytes (l - 1)) (rw there at (next (l - 1) room)))
+        says-more h place (x ∷ bytes) r (drop (l - 1) bytes) (y .follows) (record {
+          long = omega (arith, y .size, y .fits, length-drop (l - 1) bytes);
+          front = λ b. y .front b ∙ ap (λ t. recordBytes r ++ t) rest;
+          others = λ b. all-drop (l - 1) bytes (b .1);
+        }) (stepsFrom h (suc place) bytes (l - 1)) (rw there at (next (l - 1) (omega (arith, y .size, y .fits))))
     read (Read.Refused k p) e next =
         let here : p ≡ 0 = refused-at-first (x ∷ bytes) (Before.Header h) k p e in
         record {
           steps = [];
           rest = x ∷ bytes;
           ranged = tt;
-          split = refl;
+          long = omega arith;
+          split = λ b. refl;
           some = omega arith;
           refused = e ∙ ap (Read.Refused k) here;
           there = ap (λ i. place + i) here;
@@ -180,23 +208,49 @@ steps-few [] = omega arith
 steps-few (s ∷ ss) = omega (arith, front-length (stepRecord s) (stepsBytes ss), steps-few ss)
 
 -- what a reading says of a whole schedule
+
+pub record Whole (bytes : List ℕ) (h : Header) (steps : List Step) : Type 0 where
+  pub header : headerInRange h ≡ true
+  pub ranged : AllInRange (h .n) steps
+  pub short : length bytes ≤ longest
+  pub long : length (scheduleBytes h steps) ≡ length bytes
+  pub same : AllBytes bytes → scheduleBytes h steps ≡ bytes
+  -- the steps stand after the header
+  pub after : stepsFrom h (recordLength (headerRecord h)) (drop (recordLength (headerRecord h)) bytes) 0 ≡ Accepted h steps
+
+pub record Stopped (bytes : List ℕ) (k at : ℕ) : Type 0 where
+  pub number : k ≤ outOfRange
+  pub near : at ≤ longest
+  pub first : AllBytes bytes → RefusalOf bytes k at
+
 abbrev pub SaysWhole : List ℕ → Reading → Type 0
-SaysWhole bytes (Accepted h steps) =
-    (scheduleBytes h steps ≡ bytes) × (headerInRange h ≡ true) × AllInRange (h .n) steps × (length bytes ≤ longest)
-SaysWhole bytes (Refused k at) = RefusalOf bytes k at
+SaysWhole bytes (Accepted h steps) = Whole bytes h steps
+SaysWhole bytes (Refused k at) = Stopped bytes k at
 
 pub header-more : (h : Header) (rest : List ℕ) → recordLength (headerRecord h) + length rest ≡ length (recordBytes (headerRecord h) ++ rest)
 header-more h rest = sym (front-length (headerRecord h) rest)
 
-says-whole : (h : Header) (rest : List ℕ) → headerInRange h ≡ true → length (recordBytes (headerRecord h) ++ rest) ≤ longest → (x : Reading)
-    → Says h (recordLength (headerRecord h)) rest x
-    → SaysWhole (recordBytes (headerRecord h) ++ rest) x
-says-whole h rest g fits (Accepted h′ steps) y =
-    rw (y .0) (ap (λ l. recordBytes (headerRecord h) ++ l) (y .2), g, y .1, fits)
-says-whole h rest g fits (Refused k at) y =
+says-whole : (h : Header) (bytes rest : List ℕ) → headerInRange h ≡ true → length bytes ≤ longest → StandsBefore bytes (headerRecord h) rest
+    → drop (recordLength (headerRecord h)) bytes ≡ rest
+    → (x : Reading) → stepsFrom h (recordLength (headerRecord h)) rest 0 ≡ x → Says h (recordLength (headerRecord h)) rest x → SaysWhole bytes x
+says-whole h bytes rest g fits z d (Accepted h′ steps) e y =
+    rw (y .0) (record {
+      header = g;
+      ranged = y .1;
+      short = fits;
+      long = omega (arith, header-more h (stepsBytes steps), y .2, z .long);
+      same = λ b. ap (λ l. recordBytes (headerRecord h) ++ l) (y .3 (z .others b)) ∙ sym (z .front b);
+      after = ap (λ l. stepsFrom h (recordLength (headerRecord h)) l 0) d ∙ e ∙ ap (λ (a : Header). Accepted a steps) (y .0);
+    })
+says-whole h bytes rest g fits z d (Refused k at) e y =
     let place : at ≡ length (scheduleBytes h (y .steps)) = y .there ∙ header-more h (stepsBytes (y .steps)) in
-    rw place
-    (at-step h (y .steps) (y .rest) fits g (y .ranged) (ap (λ l. recordBytes (headerRecord h) ++ l) (y .split) ∙ sym (append-assoc (recordBytes (headerRecord h)) (stepsBytes (y .steps)) (y .rest))) (y .some) (y .refused))
+    let split : AllBytes bytes → bytes ≡ scheduleBytes h (y .steps) ++ y .rest = λ b.
+    z .front b ∙ ap (λ l. recordBytes (headerRecord h) ++ l) (y .split (z .others b)) ∙ sym (append-assoc (recordBytes (headerRecord h)) (stepsBytes (y .steps)) (y .rest)) in
+    record {
+      number = refused-number (y .rest) (Before.Header h) k 0 (y .refused);
+      near = omega (arith, y .there, y .long, z .long);
+      first = λ b. rw place (at-step h (y .steps) (y .rest) fits g (y .ranged) (split b) (y .some) (y .refused));
+    }
 
 pub read-says : (bytes : List ℕ) → SaysWhole bytes (readSchedule bytes)
 read-says bytes = by-length (ltb longest (length bytes)) refl
@@ -206,17 +260,25 @@ read-says bytes = by-length (ltb longest (length bytes)) refl
         let y = read-yielded bytes Before.Nothing r l e in
         let h : Header = recordHeader r in
         let placed : isHeader (r .kind) ≡ true = and-left (isHeader (r .kind)) _ (y .follows) in
-        let front : bytes ≡ recordBytes (headerRecord h) ++ drop l bytes = y .front in
         let ranged : headerInRange h ≡ true = rw placed at (and-right (isHeader (r .kind)) _ (y .follows)) in
-        let x : Reading = stepsFrom h l (drop l bytes) 0 in
-        let said : Says h (recordLength (headerRecord h)) (drop l bytes) x = subst (λ p. Says h p (drop l bytes) x) (add-zero l ∙ y .size) (says h l (drop l bytes) 0 (omega arith)) in
-        subst (λ b. SaysWhole b x) (sym front) (says-whole h (drop l bytes) ranged (subst (λ b. length b ≤ longest) front fits) x said)
+        let rest : List ℕ = drop l bytes in
+        let x : Reading = stepsFrom h l rest 0 in
+        let said : Says h (recordLength (headerRecord h)) rest x = subst (λ p. Says h p rest x) (add-zero l ∙ y .size) (says h l rest 0 (omega arith)) in
+        says-whole h bytes rest ranged fits (record {
+          long = omega (arith, y .size, y .fits, length-drop l bytes);
+          front = y .front;
+          others = all-drop l bytes;
+        }) (ap (λ i. drop i bytes) (sym (y .size))) x (ap (λ i. stepsFrom h i rest 0) (sym (y .size))) said
     by-header (Read.Refused k p) fits e =
         let here : p ≡ 0 = refused-at-first bytes Before.Nothing k p e in
-        rw here (at-header fits (e ∙ ap (Read.Refused k) here))
+        record {
+          number = refused-number bytes Before.Nothing k p e;
+          near = omega arith;
+          first = λ b. rw here (at-header fits (e ∙ ap (Read.Refused k) here));
+        }
 
     by-length : (b : Bool) → ltb longest (length bytes) ≡ b → SaysWhole bytes (cond b (Refused emptyOrTooLong 0) (stepsAfter bytes (readerAnswers bytes Before.Nothing)))
-    by-length true e = too-long (ltb-true longest (length bytes) e)
+    by-length true e = record { number = lit≤ tt; near = omega arith; first = λ b. too-long (ltb-true longest (length bytes) e) }
     by-length false e = by-header (readerAnswers bytes Before.Nothing) (ltb-false longest (length bytes) e) refl
 
 -- and the other way: a record that is refused after steps that are read

@@ -1,72 +1,62 @@
 -- One record: what stands in the bytes that the reader takes it from, and that the reader takes it from its bytes. Assumes nothing.
-use mathlib.Core.Path.{_≡_, refl, sym, ap, _∙_}
+use mathlib.Core.Path.{_≡_, refl, sym, ap, ap₂, _∙_}
 use mathlib.Core.Bool.{Bool, true, false, cond, not}
-use mathlib.Core.List.{List, [], _∷_, _++_}
-use Prim.Native.Nat.{ℕ, _+_, _<_}
+use mathlib.Core.List.{List, [], _∷_, _++_, append-assoc}
+use Prim.Native.Nat.{ℕ, zero, suc, _+_, _^_, _≤_, _<_}
 use native.Mathlib.Omega.{arith}
+use native.Mathlib.Nat.{add-zero}
 use lib.Dec.{eqb, leb}
-use lib.ListN.{length, getD, take, drop, length-append}
-use lib.Seq.{drop-cons}
+use lib.ListN.{length, getD, drop, length-append, length-drop, take-append-drop}
+use lib.Seq.{drop-cons, drop-at, drop-drop, getD-drop}
 use borrow.Author.Tests.{leb-false, eq-eqb, ne-eqb, lt-leb, not-true}
 use Rattle.number.specs.Refusal.{emptyOrTooLong, unknownKind, bodyCutShort, headerMisplaced, outOfRange}
+use Rattle.number.specs.Low.{lowBytes, lowNumber}
 use Rattle.number.proofs.Laws.{and-left, and-right, and-true}
-use Rattle.kind.specs.Kind.{kindNumber, kindOf, isKind, bodyLength, isHeader}
+use Rattle.number.proofs.LowBytes.{low-length, low-back, low-forth}
+use Rattle.kind.specs.Kind.{kindNumber, kindOf, isKind, firstWidth, secondWidth, bodyLength, isHeader}
 use Rattle.kind.specs.Step.{isStep, ofKind, inRange, numbersInRange}
 use Rattle.kind.proofs.Numbers.{kind-numbers, kind-encoded, kind-of-step, step-no-header, step-tested}
 use Rattle.schedule.specs.Types.{Kind, Step, Header, Record, Before, Read}
 use Rattle.schedule.specs.Record.{recordStep, stepRecord, headerInRange, recordInRange, recordLength, recordBytes}
-use Rattle.schedule.specs.Reader.{refused, bodyNumber, recordAt, isPlaced, inRangeAfter, kindAnswer, readerAnswers, stepAt, lengthAt}
-use Rattle.schedule.specs.RoundTrip.{mayFollow}
+use Rattle.schedule.specs.Reader.{refused, firstAt, secondAt, recordAt, isPlaced, inRangeAfter, kindAnswer, readerAnswers, stepAt, lengthAt}
+use Rattle.schedule.specs.RoundTrip.{mayFollow, AllBytes}
+use Rattle.schedule.proofs.Laws.{header-size, record-fits}
 
 -- the record of a kind with its body's numbers
 abbrev pub recordWith : Kind → ℕ → ℕ → Record
 recordWith k a b = record { kind = k; first = a; second = b }
 
-body-length : (k : Kind) (a b : ℕ) → length (take (bodyLength k) (a ∷ b ∷ [])) ≡ bodyLength k
-body-length Kind.Header a b = refl
-body-length Kind.Start a b = refl
-body-length Kind.Deliver a b = refl
-body-length Kind.Copy a b = refl
-body-length Kind.Lose a b = refl
-body-length Kind.Call a b = refl
-body-length Kind.CallLost a b = refl
-body-length Kind.Timeout a b = refl
-body-length Kind.Crash a b = refl
-body-length Kind.Restart a b = refl
-
 pub record-length : (r : Record) → length (recordBytes r) ≡ recordLength r
-record-length r = let e = body-length (r .kind) (r .first) (r .second) in omega arith
+record-length r =
+    let a : List ℕ = lowBytes (firstWidth (r .kind)) (r .first) in
+    let b : List ℕ = lowBytes (secondWidth (r .kind)) (r .second) in
+    omega (arith, length-append a b, low-length (firstWidth (r .kind)) (r .first), low-length (secondWidth (r .kind)) (r .second))
 
 pub front-length : (r : Record) (rest : List ℕ) → length (recordBytes r ++ rest) ≡ recordLength r + length rest
 front-length r rest = length-append (recordBytes r) rest ∙ ap (λ n. n + length rest) (record-length r)
 
 -- From a record to bytes and back
 
--- the numbers that the reader finds in the bytes of a record in range
-module _ (n a b : ℕ) (rest : List ℕ) where
-  abbrev Found : Kind → Type 0
-  Found k =
-      (bodyNumber (recordBytes (recordWith k a b) ++ rest) k 1 ≡ a) × (bodyNumber (recordBytes (recordWith k a b) ++ rest) k 2 ≡ b)
+-- the reader finds the numbers of a record in its bytes, where they fit
+found : (r : Record) (rest : List ℕ) → (r .first < 256 ^ firstWidth (r .kind)) × (r .second < 256 ^ secondWidth (r .kind))
+    → (firstAt (recordBytes r ++ rest) (r .kind) ≡ r .first) × (secondAt (recordBytes r ++ rest) (r .kind) ≡ r .second)
+found r rest fits =
+    let v : ℕ = firstWidth (r .kind) in
+    let w : ℕ = secondWidth (r .kind) in
+    let a : List ℕ = lowBytes v (r .first) in
+    let b : List ℕ = lowBytes w (r .second) in
+    let after : a ++ b ++ rest ≡ a ++ (b ++ rest) = append-assoc a b rest in
+    let there : length (kindNumber (r .kind) ∷ a) ≡ 1 + v = omega (arith, low-length v (r .first)) in (
+      ap (lowNumber v) after ∙ low-back v (r .first) (b ++ rest) (fits .0),
+      ap (λ l. lowNumber w (drop (1 + v) (kindNumber (r .kind) ∷ l))) after
+          ∙ ap (lowNumber w) (drop-at (kindNumber (r .kind) ∷ a) (b ++ rest) (1 + v) there)
+          ∙ low-back w (r .second) rest (fits .1),
+    )
 
-  unused : (k : Kind) → isHeader k ≡ false → recordInRange n (recordWith k a b) ≡ true → isStep (kindNumber k) a b ≡ true
-  unused k e q = and-left (isStep (kindNumber k) a b) _ (rw e at q)
-
-  found : (k : Kind) → recordInRange n (recordWith k a b) ≡ true → Found k
-  found Kind.Header q = (refl, refl)
-  found Kind.Start q = kind-encoded Kind.Start a b (unused Kind.Start refl q)
-  found Kind.Deliver q = (refl, refl)
-  found Kind.Copy q = (refl, refl)
-  found Kind.Lose q = (refl, refl)
-  found Kind.Call q = (refl, refl)
-  found Kind.CallLost q = (refl, refl)
-  found Kind.Timeout q = (refl, kind-encoded Kind.Timeout a b (unused Kind.Timeout refl q) .1)
-  found Kind.Crash q = (refl, kind-encoded Kind.Crash a b (unused Kind.Crash refl q) .1)
-  found Kind.Restart q = (refl, kind-encoded Kind.Restart a b (unused Kind.Restart refl q) .1)
-
--- a record in range after a header is in range by some n
-after-range : (before : Before) (r : Record) → inRangeAfter before r ≡ true → (n : ℕ) × (recordInRange n r ≡ true)
-after-range Before.Nothing r q = (0, q)
-after-range (Before.Header h) r q = (h .n, and-right (headerInRange h) _ q)
+-- they fit where the record is in range
+after-fits : (before : Before) (r : Record) → inRangeAfter before r ≡ true → (r .first < 256 ^ firstWidth (r .kind)) × (r .second < 256 ^ secondWidth (r .kind))
+after-fits Before.Nothing r q = record-fits 0 r (omega arith) q
+after-fits (Before.Header h) r q = record-fits (h .n) r (header-size h (and-left (headerInRange h) _ q) .1) (and-right (headerInRange h) _ q)
 
 -- the reader takes a record from its bytes, whatever follows them
 pub read-front : (before : Before) (r : Record) (rest : List ℕ) → mayFollow before r ≡ true
@@ -76,8 +66,7 @@ read-front before r rest q =
     let k : Kind = r .kind in
     let some : length bytes ≡ recordLength r + length rest = front-length r rest in
     let ranged : inRangeAfter before (recordWith k (r .first) (r .second)) ≡ true = and-right (isPlaced before k) _ q in
-    let n = after-range before r ranged in
-    let f = found (n .0) (r .first) (r .second) rest k (n .1) in
+    let f = found r rest (after-fits before r ranged) in
     simp (
       ne-eqb (length bytes) 0 (λ e. omega arith),
       kind-numbers .decoded k,
@@ -91,35 +80,46 @@ read-front before r rest q =
 
 -- And from bytes to a record: the bytes begin with the record's
 
-begins-one : (bytes : List ℕ) → 0 < length bytes → bytes ≡ getD bytes 0 0 ∷ drop 1 bytes
-begins-one bytes h = drop-cons bytes 0 0 h
+all-byte : (bytes : List ℕ) → AllBytes bytes → (i : ℕ) → getD bytes i 0 < 256
+all-byte [] b i = omega arith
+all-byte (x ∷ xs) b zero = b .0
+all-byte (x ∷ xs) b (suc i) = all-byte xs (b .1) i
 
-begins-two : (bytes : List ℕ) → 1 < length bytes → bytes ≡ getD bytes 0 0 ∷ getD bytes 1 0 ∷ drop 2 bytes
-begins-two bytes h = begins-one bytes (omega arith) ∙ ap (λ t. getD bytes 0 0 ∷ t) (drop-cons bytes 1 0 h)
+pub all-drop : (i : ℕ) (bytes : List ℕ) → AllBytes bytes → AllBytes (drop i bytes)
+all-drop zero bytes b = b
+all-drop (suc i) [] b = tt
+all-drop (suc i) (x ∷ xs) b = all-drop i xs (b .1)
 
-begins-three : (bytes : List ℕ) → 2 < length bytes → bytes ≡ getD bytes 0 0 ∷ getD bytes 1 0 ∷ getD bytes 2 0 ∷ drop 3 bytes
-begins-three bytes h = begins-two bytes (omega arith) ∙ ap (λ t. getD bytes 0 0 ∷ getD bytes 1 0 ∷ t) (drop-cons bytes 2 0 h)
+-- the bytes of a number, and those after them
+number-front : (bytes : List ℕ) (i w : ℕ) → AllBytes bytes → i + w ≤ length bytes → drop i bytes ≡ lowBytes w (lowNumber w (drop i bytes)) ++ drop (i + w) bytes
+number-front bytes i w b h =
+    let l : List ℕ = drop i bytes in
+    sym (take-append-drop w l)
+    ∙ ap₂ (λ (x y : List ℕ). x ++ y) (sym (low-forth w l (simp length-drop (omega arith)) (λ k g. all-byte l (all-drop i bytes b) k))) (drop-drop w i bytes)
 
 -- the record that the reader takes apart
-
-begins : (bytes : List ℕ) (k : Kind) → bodyLength k < length bytes → getD bytes 0 0 ≡ kindNumber k
+begins : (bytes : List ℕ) (k : Kind) → AllBytes bytes → bodyLength k < length bytes → getD bytes 0 0 ≡ kindNumber k
     → bytes ≡ recordBytes (recordAt bytes k) ++ drop (recordLength (recordAt bytes k)) bytes
-begins bytes Kind.Header h e = begins-three bytes h ∙ ap (λ x. x ∷ getD bytes 1 0 ∷ getD bytes 2 0 ∷ drop 3 bytes) e
-begins bytes Kind.Start h e = begins-one bytes h ∙ ap (λ x. x ∷ drop 1 bytes) e
-begins bytes Kind.Deliver h e = begins-three bytes h ∙ ap (λ x. x ∷ getD bytes 1 0 ∷ getD bytes 2 0 ∷ drop 3 bytes) e
-begins bytes Kind.Copy h e = begins-three bytes h ∙ ap (λ x. x ∷ getD bytes 1 0 ∷ getD bytes 2 0 ∷ drop 3 bytes) e
-begins bytes Kind.Lose h e = begins-three bytes h ∙ ap (λ x. x ∷ getD bytes 1 0 ∷ getD bytes 2 0 ∷ drop 3 bytes) e
-begins bytes Kind.Call h e = begins-three bytes h ∙ ap (λ x. x ∷ getD bytes 1 0 ∷ getD bytes 2 0 ∷ drop 3 bytes) e
-begins bytes Kind.CallLost h e = begins-three bytes h ∙ ap (λ x. x ∷ getD bytes 1 0 ∷ getD bytes 2 0 ∷ drop 3 bytes) e
-begins bytes Kind.Timeout h e = begins-two bytes h ∙ ap (λ x. x ∷ getD bytes 1 0 ∷ drop 2 bytes) e
-begins bytes Kind.Crash h e = begins-two bytes h ∙ ap (λ x. x ∷ getD bytes 1 0 ∷ drop 2 bytes) e
-begins bytes Kind.Restart h e = begins-two bytes h ∙ ap (λ x. x ∷ getD bytes 1 0 ∷ drop 2 bytes) e
+begins bytes k b h e =
+    let v : ℕ = firstWidth k in
+    let w : ℕ = secondWidth k in
+    let first : List ℕ = lowBytes v (firstAt bytes k) in
+    let second : List ℕ = lowBytes w (secondAt bytes k) in
+    let end : 1 + v + w ≡ recordLength (recordAt bytes k) = omega arith in
+    drop-cons bytes 0 0 (omega arith)
+    ∙ ap₂ (λ (x : ℕ) (l : List ℕ). x ∷ l) e
+    (
+    number-front bytes 1 v b (omega arith)
+    ∙ ap (λ l. first ++ l) (number-front bytes (1 + v) w b (omega arith) ∙ ap (λ i. second ++ drop i bytes) end)
+    ∙ sym (append-assoc first second (drop (recordLength (recordAt bytes k)) bytes))
+    )
 
 -- what it means that the reader yields a record
 pub record Yielded (bytes : List ℕ) (before : Before) (r : Record) (l : ℕ) : Type 0 where
   pub follows : mayFollow before r ≡ true
   pub size : l ≡ recordLength r
-  pub front : bytes ≡ recordBytes r ++ drop l bytes
+  pub fits : l ≤ length bytes
+  pub front : AllBytes bytes → bytes ≡ recordBytes r ++ drop l bytes
 
 -- a test that leads to a record has not led to a refusal
 
@@ -146,7 +146,8 @@ module _ (bytes : List ℕ) (before : Before) where
       record {
         follows = and-true _ _ (placed .0) (ranged .0);
         size = refl;
-        front = begins bytes k (leb-false (length bytes) (bodyLength k) (long .0)) e;
+        fits = omega (arith, leb-false (length bytes) (bodyLength k) (long .0));
+        front = λ b. begins bytes k b (leb-false (length bytes) (bodyLength k) (long .0)) e;
       } in
       rw (same .0, same .1) at found
 
@@ -159,17 +160,21 @@ module _ (bytes : List ℕ) (before : Before) where
 
 -- what is yielded, without a test
 
+pub one-byte : (bytes : List ℕ) (i : ℕ) → lowNumber 1 (drop i bytes) ≡ getD bytes i 0
+one-byte bytes i = omega (arith, getD-drop i bytes 0 0 ∙ ap (λ k. getD bytes k 0) (add-zero i))
+
 step-in : (bytes : List ℕ) (k : Kind) → recordStep (recordAt bytes k) ≡ ofKind k (getD bytes 1 0) (getD bytes 2 0)
 step-in bytes Kind.Header = refl
 step-in bytes Kind.Start = refl
-step-in bytes Kind.Deliver = refl
-step-in bytes Kind.Copy = refl
-step-in bytes Kind.Lose = refl
-step-in bytes Kind.Call = refl
-step-in bytes Kind.CallLost = refl
-step-in bytes Kind.Timeout = refl
-step-in bytes Kind.Crash = refl
-step-in bytes Kind.Restart = refl
+step-in bytes Kind.Deliver = rw (one-byte bytes 1, one-byte bytes 2) refl
+step-in bytes Kind.Copy = rw (one-byte bytes 1, one-byte bytes 2) refl
+step-in bytes Kind.Lose = rw (one-byte bytes 1, one-byte bytes 2) refl
+step-in bytes Kind.Call = rw (one-byte bytes 1, one-byte bytes 2) refl
+step-in bytes Kind.CallLost = rw (one-byte bytes 1, one-byte bytes 2) refl
+step-in bytes Kind.Timeout = rw (one-byte bytes 1) refl
+step-in bytes Kind.Crash = rw (one-byte bytes 1) refl
+step-in bytes Kind.Restart = rw (one-byte bytes 1) refl
+step-in bytes Kind.WideHeader = refl
 
 pub read-untested : (bytes : List ℕ) (before : Before) (r : Record) (l : ℕ) → readerAnswers bytes before ≡ Read.Record r l
     → (recordStep r ≡ stepAt bytes) × (l ≡ lengthAt bytes)

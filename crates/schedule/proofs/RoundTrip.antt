@@ -1,24 +1,18 @@
 -- Nothing is lost between bytes and steps, either way, and a refusal is the first from the left: the statements of specs/RoundTrip.antt.
 -- Assumes nothing.
 use mathlib.Core.Path.{_≡_, sym, ap, subst, _∙_}
-use mathlib.Core.Bool.{true}
 use mathlib.Core.List.{List, [], _∷_, _++_, append-nil, append-assoc}
-use Prim.Native.Nat.{ℕ, zero, suc, _+_, _-_, _≤_}
+use Prim.Native.Nat.{ℕ, zero, suc, _+_, _/_, _≤_}
 use native.Mathlib.Omega.{arith}
-use lib.ListN.{length, take}
+use lib.ListN.{length}
 use borrow.Author.Tests.{lt-ltb, le-ltb}
-use Rattle.number.proofs.Laws.{and-right}
-use Rattle.store.specs.Log.{places}
-use Rattle.kind.specs.Kind.{bodyLength}
-use Rattle.kind.specs.Step.{AllInRange}
+use Rattle.number.specs.Low.{lowBytes}
+use Rattle.kind.specs.Kind.{firstWidth, secondWidth}
 use Rattle.kind.proofs.Numbers.{kind-most}
-use Rattle.schedule.specs.Types.{Step, Header, Record, Before}
-use Rattle.schedule.specs.Record.{headerRecord, stepRecord, headerInRange, recordInRange, recordLength, recordBytes, longest}
-use Rattle.schedule.specs.Reader.{isPlaced}
+use Rattle.schedule.specs.Types.{Step, Header, Record}
+use Rattle.schedule.specs.Record.{headerRecord, stepRecord, recordLength, recordBytes, longest}
 use Rattle.schedule.specs.Schedule.{Accepted, Refused, stepsFrom, readSchedule, stepsBytes}
 use Rattle.schedule.specs.RoundTrip.{BytesKept, StepsKept, ReadInRange, AllBytes, BytesFit, RefusalOf, too-long, at-header, at-step, FirstRefusal}
-use Rattle.schedule.proofs.Laws.{header-size, header-record, record-bytes}
-use Rattle.schedule.proofs.Records.{step-follows}
 use Rattle.schedule.proofs.Reading.{withSteps, first-steps, after-header, all-read, SaysWhole, read-says, refused-first, still-refused, header-more, steps-few}
 
 pub steps-kept : StepsKept
@@ -29,15 +23,16 @@ steps-kept h steps g q fits =
     ∙ all-read h (recordLength (headerRecord h) + length (stepsBytes steps)) steps
 
 pub bytes-kept : BytesKept
-bytes-kept bytes h steps e = subst (SaysWhole bytes) e (read-says bytes) .0
+bytes-kept bytes b h steps e = subst (SaysWhole bytes) e (read-says bytes) .same b
 
 pub read-in-range : ReadInRange
-read-in-range bytes h steps e = let x = subst (SaysWhole bytes) e (read-says bytes) in (x .1, x .2, x .3)
+read-in-range bytes h steps e = let x = subst (SaysWhole bytes) e (read-says bytes) in (x .header, x .ranged, x .short)
 
 -- no more steps than bytes
 pub few-steps : (bytes : List ℕ) (h : Header) (steps : List Step) → readSchedule bytes ≡ Accepted h steps → length steps ≤ longest
 few-steps bytes h steps e =
-    omega (arith, steps-few steps, ap length (bytes-kept bytes h steps e), header-more h (stepsBytes steps), read-in-range bytes h steps e .2)
+    let x = subst (SaysWhole bytes) e (read-says bytes) in
+    omega (arith, steps-few steps, x .long, header-more h (stepsBytes steps), x .short)
 
 -- Refusals
 
@@ -55,7 +50,7 @@ is-refused bytes k place (at-step h steps rest fits g q split some e) =
     ∙ ap (Refused k) (header-more h (stepsBytes steps))
 
 pub first-refusal : FirstRefusal
-first-refusal = record { found = λ bytes k place e. subst (SaysWhole bytes) e (read-says bytes); given = is-refused }
+first-refusal = record { found = λ bytes b k place e. subst (SaysWhole bytes) e (read-says bytes) .first b; given = is-refused }
 
 -- Bytes
 
@@ -63,23 +58,19 @@ pub all-append : (xs ys : List ℕ) → AllBytes xs → AllBytes ys → AllBytes
 all-append [] ys p q = q
 all-append (x ∷ xs) ys p q = (p .0, all-append xs ys (p .1) q)
 
-all-take : (n : ℕ) (xs : List ℕ) → AllBytes xs → AllBytes (take n xs)
-all-take zero xs p = tt
-all-take (suc n) [] p = tt
-all-take (suc n) (x ∷ xs) p = (p .0, all-take n xs (p .1))
+low-bytes : (w x : ℕ) → AllBytes (lowBytes w x)
+low-bytes zero x = tt
+low-bytes (suc w) x = (omega arith, low-bytes w (x / 256))
 
-record-fits : (n : ℕ) (r : Record) → n ≤ places → recordInRange n r ≡ true → AllBytes (recordBytes r)
-record-fits n r h q =
-    let b = record-bytes n r h q in
-    (omega (arith, kind-most (r .kind)), all-take (bodyLength (r .kind)) (r .first ∷ r .second ∷ []) (b .0, (b .1, tt)))
+record-bytes : (r : Record) → AllBytes (recordBytes r)
+record-bytes r = (
+  omega (arith, kind-most (r .kind)),
+  all-append (lowBytes (firstWidth (r .kind)) (r .first)) (lowBytes (secondWidth (r .kind)) (r .second)) (low-bytes (firstWidth (r .kind)) (r .first)) (low-bytes (secondWidth (r .kind)) (r .second)),
+)
 
-steps-fit : (h : Header) → headerInRange h ≡ true → (steps : List Step) → AllInRange (h .n) steps → AllBytes (stepsBytes steps)
-steps-fit h g [] q = tt
-steps-fit h g (s ∷ ss) q =
-    let r : Record = stepRecord s in
-    let ranged = and-right (headerInRange h) _ (and-right (isPlaced (Before.Header h) (r .kind)) _ (step-follows h s g (q .0))) in
-    all-append (recordBytes r) (stepsBytes ss) (record-fits (h .n) r (header-size h g .1) ranged) (steps-fit h g ss (q .1))
+steps-bytes : (steps : List Step) → AllBytes (stepsBytes steps)
+steps-bytes [] = tt
+steps-bytes (s ∷ ss) = all-append (recordBytes (stepRecord s)) (stepsBytes ss) (record-bytes (stepRecord s)) (steps-bytes ss)
 
 pub bytes-fit : BytesFit
-bytes-fit h steps g q =
-    all-append (recordBytes (headerRecord h)) (stepsBytes steps) (record-fits 0 (headerRecord h) (omega arith) (header-record 0 h g)) (steps-fit h g steps q)
+bytes-fit h steps = all-append (recordBytes (headerRecord h)) (stepsBytes steps) (record-bytes (headerRecord h)) (steps-bytes steps)

@@ -3,9 +3,10 @@ use mathlib.Core.Bool.{Bool, cond, _&&_, not}
 use mathlib.Core.List.{List}
 use Prim.Native.Nat.{ℕ, _+_}
 use lib.Dec.{eqb, leb}
-use lib.ListN.{length, getD}
+use lib.ListN.{length, getD, drop}
 use Rattle.number.specs.Refusal.{Handed, hands, accepted, emptyOrTooLong, unknownKind, bodyCutShort, headerMisplaced, outOfRange}
-use Rattle.kind.specs.Kind.{kindOf, isKind, bodyLength, isHeader}
+use Rattle.number.specs.Low.{lowNumber}
+use Rattle.kind.specs.Kind.{kindOf, isKind, firstWidth, secondWidth, bodyLength, isHeader}
 use Rattle.kind.specs.Step.{ofKind}
 use Rattle.schedule.specs.Types.{Kind, Step, Record, Before, Read}
 use Rattle.schedule.specs.Record.{headerInRange, recordInRange, recordLength}
@@ -14,11 +15,15 @@ use Rattle.schedule.specs.Record.{headerInRange, recordInRange, recordLe
 abbrev pub refused : ℕ → Read
 refused k = Read.Refused k 0
 
--- number i of the body, 0 where the kind's body has none
-abbrev pub bodyNumber : List ℕ → Kind → ℕ → ℕ
-bodyNumber bytes k i = cond (leb i (bodyLength k)) (getD bytes i 0) 0
+-- the two numbers of the body, each by the bytes that it has there, 0 where it has none
 
--- the header comes first, only there
+abbrev pub firstAt : List ℕ → Kind → ℕ
+firstAt bytes k = lowNumber (firstWidth k) (drop 1 bytes)
+
+abbrev pub secondAt : List ℕ → Kind → ℕ
+secondAt bytes k = lowNumber (secondWidth k) (drop (1 + firstWidth k) bytes)
+
+-- a header, of either kind, comes first, only there
 abbrev pub isPlaced : Before → Kind → Bool
 isPlaced Before.Nothing k = isHeader k
 isPlaced (Before.Header h) k = not (isHeader k)
@@ -36,7 +41,7 @@ bodyAnswer before r = ranged r (inRangeAfter before r)
 
 -- the record of a kind that the bytes begin with
 abbrev pub recordAt : List ℕ → Kind → Record
-recordAt bytes k = record { kind = k; first = bodyNumber bytes k 1; second = bodyNumber bytes k 2 }
+recordAt bytes k = record { kind = k; first = firstAt bytes k; second = secondAt bytes k }
 
 abbrev pub kindAnswer : List ℕ → Before → Kind → Read
 kindAnswer bytes before k =

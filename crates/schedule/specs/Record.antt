@@ -1,11 +1,11 @@
--- Records: one byte of kind and a body of up to two numbers, each a byte. Headers and steps as records, their ranges, and the bytes of a record.
+-- Records: one byte of kind and a body of up to two numbers. Headers and steps as records, their ranges, and the bytes of a record.
 -- Assumes nothing.
 use mathlib.Core.Bool.{Bool, cond, _&&_}
-use mathlib.Core.List.{List, [], _∷_}
+use mathlib.Core.List.{List, _∷_, _++_}
 use Prim.Native.Nat.{ℕ, _+_}
-use lib.ListN.{take}
+use Rattle.number.specs.Low.{lowBytes}
 use Rattle.mask.specs.Mask.{within}
-use Rattle.kind.specs.Kind.{kindNumber, kindOf, bodyLength, isHeader, room}
+use Rattle.kind.specs.Kind.{kindNumber, kindOf, firstWidth, secondWidth, bodyLength, isHeader, room}
 use Rattle.kind.specs.Step.{stepKind, firstNumber, secondNumber, ofKind, numberInRange, numbersInRange}
 use Rattle.schedule.specs.Types.{Step, Header, Record}
 
@@ -38,8 +38,9 @@ recordInRange n r = cond (isHeader (r .kind)) (headerInRange (recordHeader r)) (
 abbrev pub recordLength : Record → ℕ
 recordLength r = 1 + bodyLength (r .kind)
 
+-- the kind, and each number of the body by the bytes that it has there, low byte first
 abbrev pub recordBytes : Record → List ℕ
-recordBytes r = kindNumber (r .kind) ∷ take (bodyLength (r .kind)) (r .first ∷ r .second ∷ [])
+recordBytes r = kindNumber (r .kind) ∷ (lowBytes (firstWidth (r .kind)) (r .first) ++ lowBytes (secondWidth (r .kind)) (r .second))
 
 -- the most bytes that a schedule has
 abbrev pub longest : ℕ

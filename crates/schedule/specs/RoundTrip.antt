@@ -15,11 +15,16 @@ use Rattle.schedule.specs.Schedule.{Accepted, Refused, readSchedule, sch
 abbrev pub mayFollow : Before → Record → Bool
 mayFollow before r = isPlaced before (r .kind) && inRangeAfter before r
 
+-- bytes: numbers below 256. A number of several bytes gives back just these
+abbrev pub AllBytes : List ℕ → Type 0
+AllBytes [] = Unit {0}
+AllBytes (x ∷ xs) = (x < 256) × AllBytes xs
+
 -- A whole schedule
 
 -- every accepted schedule's bytes are the bytes of what was read
 abbrev pub BytesKept : Type 0
-BytesKept = (bytes : List ℕ) (h : Header) (steps : List Step) → readSchedule bytes ≡ Accepted h steps → scheduleBytes h steps ≡ bytes
+BytesKept = (bytes : List ℕ) → AllBytes bytes → (h : Header) (steps : List Step) → readSchedule bytes ≡ Accepted h steps → scheduleBytes h steps ≡ bytes
 
 -- every header in range, with steps in range under it and within the longest schedule, is read back from its bytes
 abbrev pub StepsKept : Type 0
@@ -34,13 +39,8 @@ ReadInRange =
     → (headerInRange h ≡ true) × AllInRange (h .n) steps × (length bytes ≤ longest)
 
 -- the bytes of a schedule are bytes
-
-abbrev pub AllBytes : List ℕ → Type 0
-AllBytes [] = Unit {0}
-AllBytes (x ∷ xs) = (x < 256) × AllBytes xs
-
 abbrev pub BytesFit : Type 0
-BytesFit = (h : Header) (steps : List Step) → headerInRange h ≡ true → AllInRange (h .n) steps → AllBytes (scheduleBytes h steps)
+BytesFit = (h : Header) (steps : List Step) → AllBytes (scheduleBytes h steps)
 
 -- Refusals: too long; no header first; or, after a header and steps that are read, a record that the reader refuses. The place is that of the
 -- record's first byte
@@ -53,5 +53,5 @@ pub data RefusalOf (bytes : List ℕ) : ℕ → ℕ → Type 0 where
 
 -- for every bytes exactly one outcome, since `readSchedule` is a function; a refusal is one of these, and each of these is refused
 pub record FirstRefusal : Type 0 where
-  pub found : (bytes : List ℕ) (k place : ℕ) → readSchedule bytes ≡ Refused k place → RefusalOf bytes k place
+  pub found : (bytes : List ℕ) → AllBytes bytes → (k place : ℕ) → readSchedule bytes ≡ Refused k place → RefusalOf bytes k place
   pub given : (bytes : List ℕ) (k place : ℕ) → RefusalOf bytes k place → readSchedule bytes ≡ Refused k place

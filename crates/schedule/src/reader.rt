@@ -8,11 +8,14 @@ use number::EMPTY_OR_TOO_LONG;
 use number::HEADER_MISPLACED;
 use number::OUT_OF_RANGE;
 use number::UNKNOWN_KIND;
+use number::low;
 ghost use mathlib.Core.Path.{_≡_};
 ghost use lib.Dec.{leb};
-ghost use lib.ListN.{length, getD};
+ghost use Prim.Native.Nat.{_+_, _≤_, _<_};
+ghost use lib.ListN.{length, getD, drop};
+ghost use Rattle.number.specs.Low.{lowNumber};
 ghost use Rattle.kind.specs.Kind.{bodyLength};
-ghost use Rattle.schedule.specs.Reader.{bodyNumber, recordAt, inRangeAfter, ranged, readerAnswers, stepAt, lengthAt};
+ghost use Rattle.schedule.specs.Reader.{recordAt, inRangeAfter, ranged, readerAnswers, stepAt, lengthAt};
 ghost use Rattle.schedule.specs.Found.{kindAt};
 ghost use Rattle.schedule.specs.declared.reader.Before.{Before};
 
@@ -34,12 +37,11 @@ enum Found {
     Refused(u32),
 }
 
-// Whether the bytes end before the body of the kind does. No body has more than two numbers: where more bytes are there, no jump
-// depends on the kind.
+// Whether the bytes end before the body of the kind does. Where more bytes are there than any body has, no jump depends on the kind.
 fn cut_short(bytes: &[u8], kind: Kind) -> bool
     ensures { λ b. ⌜ b ≡ leb (length (now (bytes .entry))) (bodyLength kind) ⌝ }
 {
-    if Kind::TWO_NUMBERS < bytes.len() {
+    if Kind::LONGEST_BODY < bytes.len() {
         false
     } else {
         bytes.len() <= Kind::body(kind)
@@ -66,22 +68,29 @@ fn kind_at(bytes: &[u8]) -> Found
     }
 }
 
-// Number i of the body, 0 where the kind's body has none. The byte is read first: the test then only picks a number, with no jump.
-fn body_number(bytes: &[u8], kind: Kind, i: usize) -> u32
-    ensures { λ k. ⌜ k ≡ bodyNumber (now (bytes .entry)) kind i ⌝ }
+// A number of the body, by the bytes that it has there, 0 where it has none. A step's numbers have one byte or none: the byte is read first,
+// and the test then only picks a number, with no jump.
+fn number_at(bytes: &[u8], place: usize, width: usize) -> u32
+    requires { ⌜ (place + width ≤ length (now bytes)) × (width ≤ 4) ⌝ }
+    ensures { λ x. ⌜ x ≡ lowNumber width (drop place (now (bytes .entry))) ⌝ }
 {
-    let b = byte_at(bytes, i);
-    if i <= Kind::body(kind) { b } else { 0 }
+    if 1 < width {
+        return low::number(bytes, place, width);
+    }
+    let b = byte_at(bytes, place);
+    if width == 0 { 0 } else { b }
 }
 
-// The record of a kind.
+// The record of a kind, where all of its body is there.
 fn record_at(bytes: &[u8], kind: Kind) -> Record
+    requires { ⌜ bodyLength kind < length (now bytes) ⌝ }
     ensures { λ r. ⌜ r ≡ recordAt (now (bytes .entry)) kind ⌝ }
 {
+    let width = kind.first_width();
     Record {
         kind: kind,
-        first: body_number(bytes, kind, 1),
-        second: body_number(bytes, kind, 2),
+        first: number_at(bytes, 1, width),
+        second: number_at(bytes, 1 + width, kind.second_width()),
     }
 }
 
@@ -96,8 +105,8 @@ fn ranged(r: Record, good: bool) -> Read
     }
 }
 
-// The first record: the header comes first.
-fn read_header(bytes: &[u8]) -> Read
+// The first record: a header, of either kind, comes first.
+pub fn read_header(bytes: &[u8]) -> Read
     ensures { λ x. ⌜ x ≡ readerAnswers (now (bytes .entry)) Before.Nothing ⌝ }
 {
     match kind_at(bytes) {
@@ -120,8 +129,8 @@ fn in_range_under(h: Header, r: Record) -> bool
     if h.in_range() { r.in_range(h.n) } else { false }
 }
 
-// A record after the header: the header is only there.
-fn read_step(bytes: &[u8], h: Header) -> Read
+// A record after the header: no further one follows.
+pub fn read_step(bytes: &[u8], h: Header) -> Read
     ensures { λ x. ⌜ x ≡ readerAnswers (now (bytes .entry)) (Before.Header h) ⌝ }
 {
     match kind_at(bytes) {

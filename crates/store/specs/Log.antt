@@ -2,6 +2,7 @@
 use mathlib.Core.Bool.{Bool, true, false, cond, _&&_}
 use mathlib.Core.List.{[], _∷_}
 use Prim.Native.Nat.{ℕ}
+use lib.Dec.{eqb}
 use Rattle.number.specs.Numbering.{numbered, isNumber}
 use Rattle.store.specs.Types.{LogRecord, None, Yes, Abort, Commit, LogPair, Call, Logged, Performed}
 
@@ -55,6 +56,10 @@ allowed Commit last = false
 
 abbrev pub isAllowed : LogPair → Bool
 isAllowed l = allowed (l .first) (l .last)
+
+-- two logs have the same records
+abbrev pub sameRecords : LogPair → LogPair → Bool
+sameRecords l m = eqb (recordNumber (l .first)) (recordNumber (m .first)) && eqb (recordNumber (l .last)) (recordNumber (m .last))
 
 -- a call answers the last record afterwards and says, by request 2026-01, whether it wrote the first one
 abbrev pub leaves : Bool → LogPair → Logged

@@ -1,7 +1,7 @@
 // The store: write-once logs, the calls LogOnce and Log, and the two log entries.
 ghost use mathlib.Core.Path.{_≡_};
 ghost use lib.ListN.{getD, set, replicate};
-ghost use Rattle.store.specs.Log.{recordNumber, recordOf, isRecord, empty, places, isAllowed, logOnce, replaces, log, perform, wroteAbort};
+ghost use Rattle.store.specs.Log.{recordNumber, recordOf, isRecord, empty, places, isAllowed, sameRecords, logOnce, replaces, log, perform, wroteAbort};
 ghost use Rattle.store.specs.Entry.{handed, logOnceEntry, logHands, logEntry};
 
 // How many logs a store has: one for each participant that it has room for.
@@ -88,6 +88,21 @@ impl LogRecord {
 }
 
 impl LogPair {
+    // Whether it has the same records.
+    fn same(self, l: LogPair) -> bool
+        ensures { λ b. ⌜ b ≡ sameRecords self l ⌝ }
+    {
+        let first = self.first;
+        let last = self.last;
+        let other_first = l.first;
+        let other_last = l.last;
+        if first.number() == other_first.number() {
+            last.number() == other_last.number()
+        } else {
+            false
+        }
+    }
+
     // Whether a log can hold this pair.
     pub fn allowed(self) -> bool
         ensures { λ b. ⌜ b ≡ isAllowed self ⌝ }
@@ -288,16 +303,19 @@ impl Store {
         }
     }
 
-    // The store with a log at place i. A place that no store has is left out.
+    // The store with a log at place i. A place that no store has is left out. Where the log is as it was nothing is written: most calls find their
+    // log written, and a store that was just written to is copied more slowly.
     pub fn with_log(self, i: usize, l: LogPair) -> Store
         ensures { λ s. ⌜ s ≡ record { logs = set (self .logs) i l } ⌝ }
     {
         let mut next = self;
         if i < LOGS {
+            let old = self.logs[i];
+            if old.same(l) {
+                return next;
+            }
             next.logs[i] = l;
-            next
-        } else {
-            self
         }
+        next
     }
 }

@@ -56,13 +56,20 @@ cases =
     ∷ case (idleTail 2 3 0 0) 9 0 0 accepted 1
     -- n, votes, coordinator state, and its heard mask: outside its states, beyond n, full
     ∷ case (idleTail 0 0 0 0) 2 0 0 outOfRange 0
-    ∷ case (idleTail 9 3 0 0) 2 0 0 outOfRange 0
+    ∷ case (idleTail 33 3 0 0) 2 0 0 outOfRange 0
     ∷ case (idleTail 2 4 0 0) 2 0 0 outOfRange 0
     ∷ case (idleTail 2 3 7 0) 9 0 0 outOfRange 0
     ∷ case (idleTail 2 3 0 1) 2 0 0 outOfRange 0
     ∷ case (idleTail 2 3 1 4) 8 0 0 outOfRange 0
     ∷ case (idleTail 2 3 1 3) 8 0 0 outOfRange 0
     ∷ case (idleTail 2 3 1 2) 8 0 0 accepted 1
+    -- request 2026-03: n up to 32, the range by n alone; the last bit of a mask of 32, and that bit beyond 31
+    ∷ case (idleTail 9 511 0 0) 2 0 0 accepted 1
+    ∷ case (idleTail 32 4294967295 0 0) 9 32 0 accepted 1
+    ∷ case (idleTail 32 4294967295 1 2147483648) 8 0 0 accepted 1
+    ∷ case (idleTail 32 4294967295 1 4294967295) 8 0 0 outOfRange 0
+    ∷ case (idleTail 31 2147483648 0 0) 2 0 0 outOfRange 0
+    ∷ case (idleTail 8 256 0 0) 2 0 0 outOfRange 0
     -- a message mask beyond n
     ∷ case (tail 2 3 0 0 (set (replicate 5 0) 4 4) (replicate places zero) (replicate (suc places) 0)) 2 0 0 outOfRange 0
     -- a participant's state; its heard mask outside 4, with the own bit, full, in 4 with one participant
@@ -81,9 +88,10 @@ cases =
     ∷ case (tail 2 3 0 0 (replicate 5 0) (replicate places zero) (set (replicate (suc places) 0) 2 65535)) 2 0 0 outOfRange 0
     ∷ case (tail 2 3 0 0 (replicate 5 0) (replicate places zero) (set (replicate (suc places) 0) 2 65534)) 2 0 0 accepted 1
     ∷ case (tail 2 3 0 0 (replicate 5 0) (replicate places zero) (set (replicate (suc places) 0) 3 1)) 2 0 0 outOfRange 0
-    -- no step: a header, an unknown kind, a type 0 or 6, a number that the kind does not use
+    -- no step: a header of either kind, an unknown kind, a type 0 or 6, a number that the kind does not use
     ∷ case (idleTail 2 3 0 0) 1 2 3 outOfRange 0
-    ∷ case (idleTail 2 3 0 0) 11 0 0 outOfRange 0
+    ∷ case (idleTail 2 3 0 0) 11 2 3 outOfRange 0
+    ∷ case (idleTail 2 3 0 0) 12 0 0 outOfRange 0
     ∷ case (idleTail 2 3 0 0) 3 0 1 outOfRange 0
     ∷ case (idleTail 2 3 0 0) 3 6 1 outOfRange 0
     ∷ case (idleTail 2 3 0 0) 2 1 0 outOfRange 0

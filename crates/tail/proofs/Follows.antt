@@ -149,10 +149,10 @@ tail-in-range kind r h g k =
 
 -- and the single step follows the run
 
-single-follows : (r : Release) → r .n ≤ room Kind.Header → length (r .sites) ≡ places → length (r .store .logs) ≡ places → ReleaseInRange r → Countable (r .calls)
+single-follows : (r : Release) → r .n ≤ room Kind.WideHeader → length (r .sites) ≡ places → length (r .store .logs) ≡ places → ReleaseInRange r → Countable (r .calls)
     → (s : Step) → inRange (r .n) s ≡ true → singleStep (tailOf r) (stepNumber s) (firstNumber s) (secondNumber s) ≡ handed (tailOf r) (step r s)
 single-follows r h l m g k s q =
-    sym (single-taken (tailOf r) (stepNumber s) (firstNumber s) (secondNumber s) (tail-in-range Kind.Header r h g k) (step-tested (r .n) s q))
+    sym (single-taken (tailOf r) (stepNumber s) (firstNumber s) (secondNumber s) (tail-in-range Kind.WideHeader r h g k) (step-tested (r .n) s q))
     ∙ ap₂ (λ (x : Release) (y : Step). handed (tailOf r) (step x y)) (release-decoded r l m) (step-numbers .decoded s)
 
 pub single-step-follows : SingleStepFollows

@@ -17,12 +17,12 @@ use Rattle.tail.specs.Tail.{releaseOf, tailInRange}
 use Rattle.tail.specs.Types.{Kind, Tail, Step, Store, Release, Report, Outcome}
 use Rattle.tail.proofs.TailRange.{countable}
 
-module _ (t : Tail) (m : length (t .messages) ≡ 5) (k : length (t .calls) ≡ suc places) (q : tailInRange Kind.Header t ≡ true) (l : List ℕ) (e : l ≡ fields (releaseOf t)) where
+module _ (t : Tail) (m : length (t .messages) ≡ 5) (k : length (t .calls) ≡ suc places) (q : tailInRange Kind.WideHeader t ≡ true) (l : List ℕ) (e : l ≡ fields (releaseOf t)) where
   tail-places : HasPlaces (releaseOf t)
   tail-places = record { sites = length-tabulate places _; messages = m; calls = k }
 
   pub can-count : CanCount l
-  can-count p g = rw (e, count-in (releaseOf t) tail-places p g) (countable Kind.Header t k q p)
+  can-count p g = rw (e, count-in (releaseOf t) tail-places p g) (countable Kind.WideHeader t k q p)
 
   module _ (s : Step) (o : Outcome) (c : Bool) (after : List ℕ) (before next : Store) (b : before ≡ releaseOf t .store) (leads : Steps (t .n) (λ r. step r s) l before o c after next) where
     led : (o ≡ step (releaseOf t) s .outcome) × (after ≡ fields (step (releaseOf t) s .next)) × (next ≡ step (releaseOf t) s .next .store) × (c ≡ step (releaseOf t) s .closed)
@@ -35,4 +35,4 @@ module _ (t : Tail) (m : length (t .messages) ≡ 5) (k : length (t .calls) ≡ 
     same-report x y =
         ap (λ (z : Bool). record { outcome = o; closed = z; next = x }) (led .3)
         ∙ ap₂ (λ (x : Outcome) (r : Release). record { outcome = x; closed = step (releaseOf t) s .closed; next = r }) same-outcome
-        (y ∙ ap₂ releaseIn (led .1) (led .2) ∙ release-in (step (releaseOf t) s .next) (step-places (releaseOf t) s tail-places) (λ p. omega (arith, one-call-more (releaseOf t) s p, countable Kind.Header t k q p)))
+        (y ∙ ap₂ releaseIn (led .1) (led .2) ∙ release-in (step (releaseOf t) s .next) (step-places (releaseOf t) s tail-places) (λ p. omega (arith, one-call-more (releaseOf t) s p, countable Kind.WideHeader t k q p)))

@@ -25,12 +25,12 @@ handed t r = cond (moves (r .outcome)) (record { number = accepted; state = tail
 
 -- Order: 5, 7
 abbrev pub singleStep : Tail → ℕ → ℕ → ℕ → Stepped
-singleStep t kind a b = cond (tailInRange Kind.Header t && numbersInRange (t .n) kind a b) (handed t (step (releaseOf t) (stepOf kind a b))) (refused outOfRange t)
+singleStep t kind a b = cond (tailInRange Kind.WideHeader t && numbersInRange (t .n) kind a b) (handed t (step (releaseOf t) (stepOf kind a b))) (refused outOfRange t)
 
 -- From every release that a run reaches, with counts in range, the single step is the step of the rules. Proved in proofs/Follows.antt
 abbrev pub SingleStepFollows : Type 0
 SingleStepFollows =
-    (n votes : ℕ) → 1 ≤ n → n ≤ room Kind.Header → within n votes ≡ true → (steps : List Step) → AllInRange n steps → (s : Step) → inRange n s ≡ true
+    (n votes : ℕ) → 1 ≤ n → n ≤ room Kind.WideHeader → within n votes ≡ true → (steps : List Step) → AllInRange n steps → (s : Step) → inRange n s ≡ true
     → Countable (after (fresh places n votes) steps .calls)
     → singleStep (tailOf (after (fresh places n votes) steps)) (stepNumber s) (firstNumber s) (secondNumber s)
     ≡ handed (tailOf (after (fresh places n votes) steps)) (step (after (fresh places n votes) steps) s)

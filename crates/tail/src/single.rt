@@ -35,7 +35,7 @@ impl Tail {
     }
 
     fn stepped(self, s: Step) -> Stepped
-        requires { ⌜ (tailInRange Kind.Header self ≡ true) × (inRange (self .n) s ≡ true) ⌝ }
+        requires { ⌜ (tailInRange Kind.WideHeader self ≡ true) × (inRange (self .n) s ≡ true) ⌝ }
         ensures { λ x. ⌜ x ≡ handed self (step (releaseOf self) s) ⌝ }
     {
         let before = self.release();
@@ -60,7 +60,7 @@ impl Tail {
     pub fn single_step(self, kind: u32, a: u32, b: u32) -> Stepped
         ensures { λ s. ⌜ s ≡ singleStep self kind a b ⌝ }
     {
-        if self.in_range(Kind::Header) {
+        if self.in_range(Kind::WideHeader) {
             if Step::numbers_in_range(self.n, kind, a, b) {
                 self.stepped(Step::of(Kind::of(kind), a, b))
             } else {

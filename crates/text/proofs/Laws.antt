@@ -1,7 +1,7 @@
 -- What the proofs of this crate, and of crates that lay texts out, use of the definitions: decimals digit by digit, lengths, and stores one after another.
 -- Assumes nothing.
 use mathlib.Core.Path.{_≡_, refl, sym, ap, _∙_}
-use mathlib.Core.Bool.{Bool, true, false}
+use mathlib.Core.Bool.{Bool, true, false, cond}
 use mathlib.Core.List.{List, [], _∷_, _++_}
 use Prim.Native.Nat.{ℕ, zero, suc, _+_, _*_, _/_, _%_, _^_, _≤_, _<_}
 use native.Mathlib.Nat.{pow-suc}
@@ -13,6 +13,18 @@ use lib.Seq.{sets, set-comm, drop-cons}
 use borrow.Author.Tests.{ltb-true, ltb-false, lt-ltb, le-ltb}
 use Rattle.number.proofs.Lists.{sets-append}
 use Rattle.text.specs.Text.{ascii, digit, digitsUpTo, decimal, hexadecimal, refusalLine}
+
+-- a digit's code as one sum
+pub digit-sum : (d : ℕ) → 48 + d + cond (ltb d 10) 0 39 ≡ digit d
+digit-sum d = go (ltb d 10)
+  where
+    go : (b : Bool) → 48 + d + cond b 0 39 ≡ cond b (48 + d) (87 + d)
+    go true = omega arith
+    go false = omega arith
+
+pub beyond-most : (b : Bool) → cond b 0 39 ≤ 39
+beyond-most true = omega arith
+beyond-most false = omega arith
 
 -- Decimals
 

@@ -1,6 +1,8 @@
 // Text in a lent buffer: each function puts its text at a place that has room for it, and answers the place after it.
 ghost use mathlib.Core.Path.{_≡_};
+ghost use mathlib.Core.Bool.{cond};
 ghost use Prim.Native.Nat.{_+_, _≤_, _<_};
+ghost use lib.Dec.{ltb};
 ghost use lib.ListN.{length};
 ghost use Rattle.text.specs.Put.{Put};
 ghost use Rattle.text.specs.Text.{digit, decimal, hexadecimal, refusalLine};
@@ -18,12 +20,19 @@ pub fn put(text: &mut [u8], place: usize, bytes: &[u8]) -> usize
     place + i
 }
 
-// The code of a digit below 16.
+// How much further than the digits the letters stand.
+fn beyond(d: u8) -> u8
+    ensures { λ x. ⌜ x ≡ cond (ltb d 10) 0 39 ⌝ }
+{
+    if d < 10 { 0 } else { 39 }
+}
+
+// The code of a digit below 16. One sum, so that the compiler works out many digits at once.
 fn digit(d: u8) -> u8
     requires { ⌜ d < 16 ⌝ }
     ensures { λ c. ⌜ c ≡ digit d ⌝ }
 {
-    if d < 10 { 48 + d } else { 87 + d }
+    48 + d + beyond(d)
 }
 
 // How many digits n has in decimal.

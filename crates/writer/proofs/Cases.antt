@@ -5,7 +5,7 @@ use mathlib.Core.List.{List, [], _∷_}
 use Prim.Native.Nat.{ℕ}
 use lib.ListN.{length}
 use Rattle.number.specs.Refusal.{Handed, hands, accepted, unknownKind, outOfRange, tooShort}
-use Rattle.writer.specs.Writer.{writerAnswers, writtenHands}
+use Rattle.writer.specs.Writer.{writerAnswers, writerLeaves, writtenHands}
 use Rattle.schedule.proofs.Cases.{same, allHold}
 
 -- The writer: 0 and the place after the record, or the refusal's number with the place given or the length needed
@@ -24,18 +24,23 @@ write room place kind a b k v =
 
 abbrev writes : List WriteCase
 writes =
-    -- it knows no n: participants and logs 1 to 8, parties 0 to 8; a header by its own n
+    -- it knows no n: participants and logs 1 to 32, parties 0 to 32; a header by its own kind and n
     write 3 0 1 8 255 accepted 3
     ∷ write 3 0 1 8 256 outOfRange 0
     ∷ write 3 0 1 9 0 outOfRange 0
     ∷ write 3 0 1 1 2 outOfRange 0
-    ∷ write 9 5 3 5 8 accepted 8
-    ∷ write 9 5 3 5 9 outOfRange 5
+    ∷ write 6 0 11 8 255 accepted 6
+    ∷ write 6 0 11 32 4294967295 accepted 6
+    ∷ write 6 0 11 31 2147483648 outOfRange 0
+    ∷ write 6 0 11 33 0 outOfRange 0
+    ∷ write 6 0 11 0 0 outOfRange 0
+    ∷ write 9 5 3 5 32 accepted 8
+    ∷ write 9 5 3 5 33 outOfRange 5
     ∷ write 9 5 3 6 1 outOfRange 5
-    ∷ write 9 5 6 8 8 accepted 8
+    ∷ write 9 5 6 32 32 accepted 8
     ∷ write 9 5 6 0 0 outOfRange 5
-    ∷ write 9 5 7 9 1 outOfRange 5
-    ∷ write 9 5 10 8 0 accepted 7
+    ∷ write 9 5 7 33 1 outOfRange 5
+    ∷ write 9 5 10 32 0 accepted 7
     -- unused numbers are 0
     ∷ write 9 5 2 0 0 accepted 6
     ∷ write 9 5 2 1 0 outOfRange 5
@@ -50,9 +55,15 @@ writes =
     ∷ write 0 0 2 0 0 tooShort 1
     ∷ write 2 0 1 1 1 tooShort 3
     ∷ write 32768 32768 9 0 0 tooShort 32770
-    ∷ write 0 0 11 0 0 unknownKind 0
-    ∷ write 0 0 8 9 0 outOfRange 0
+    ∷ write 5 0 11 1 1 tooShort 6
+    ∷ write 32773 32768 11 1 1 tooShort 32774
+    ∷ write 0 0 12 0 0 unknownKind 0
+    ∷ write 0 0 8 33 0 outOfRange 0
     ∷ []
 
 writes-hold : allHold (λ c. same (writtenHands (writerAnswers (c .room) (c .place) (c .kind) (c .first) (c .second))) (c .handed)) writes ≡ true
 writes-hold = refl
+
+-- the six bytes of a header 0B, the low byte of its mask first
+wide-written : writerLeaves (7 ∷ 7 ∷ 7 ∷ 7 ∷ 7 ∷ 7 ∷ 7 ∷ 7 ∷ []) 1 11 20 262657 ≡ (7 ∷ 11 ∷ 20 ∷ 1 ∷ 2 ∷ 4 ∷ 0 ∷ 7 ∷ [])
+wide-written = refl

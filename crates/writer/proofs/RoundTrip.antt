@@ -32,11 +32,11 @@ read-after-write buffer place before r q near room =
     (w .0, ap (λ b. readerAnswers b before) there ∙ read-front before r rest q)
 
 pub write-after-read : WriteAfterRead
-write-after-read bytes before r l e buffer place near room =
+write-after-read bytes b before r l e buffer place near room =
     let y = read-yielded bytes before r l e in
     let w = written buffer place before r (y .follows) near (subst (λ n. place + n ≤ length buffer) (y .size) room) in
     let same : take l bytes ≡ recordBytes r =
-    ap (take l) (y .front) ∙ take-at (recordBytes r) (drop l bytes) l (record-length r ∙ sym (y .size)) in
+    ap (take l) (y .front b) ∙ take-at (recordBytes r) (drop l bytes) l (record-length r ∙ sym (y .size)) in
     (w .0 ∙ ap (λ n. Written.Done (place + n)) (sym (y .size)), w .1 ∙ ap (sets buffer place) (sym same))
 
 -- A whole schedule through the writer

@@ -1,4 +1,4 @@
--- A record that may follow is one that the writer takes, since n is at most 8, and is put as its bytes. Assumes nothing.
+-- A record that may follow is one that the writer takes, since n is at most 32, and is put as its bytes. Assumes nothing.
 use mathlib.Core.Path.{_≡_, ap, _∙_}
 use mathlib.Core.Bool.{Bool, true, false, cond}
 use mathlib.Core.List.{List}
@@ -21,15 +21,15 @@ use Rattle.writer.specs.RoundTrip.{answersFor, leavesFor}
 use Rattle.schedule.proofs.Laws.{header-room}
 use Rattle.schedule.proofs.Records.{recordWith}
 
-more-range : (n : ℕ) (r : Record) → n ≤ room Kind.Header → recordInRange n r ≡ true → recordInRange (room Kind.Header) r ≡ true
+more-range : (n : ℕ) (r : Record) → n ≤ room Kind.WideHeader → recordInRange n r ≡ true → recordInRange (room Kind.WideHeader) r ≡ true
 more-range n r h q = by (isHeader (r .kind)) q
   where
     by : (b : Bool) → cond b (headerInRange (recordHeader r)) (numbersInRange n (kindNumber (r .kind)) (r .first) (r .second)) ≡ true
-        → cond b (headerInRange (recordHeader r)) (numbersInRange (room Kind.Header) (kindNumber (r .kind)) (r .first) (r .second)) ≡ true
+        → cond b (headerInRange (recordHeader r)) (numbersInRange (room Kind.WideHeader) (kindNumber (r .kind)) (r .first) (r .second)) ≡ true
     by true q = q
-    by false q = more-tested n (room Kind.Header) h (kindNumber (r .kind)) (r .first) (r .second) q
+    by false q = more-tested n (room Kind.WideHeader) h (kindNumber (r .kind)) (r .first) (r .second) q
 
-after-writable : (before : Before) (r : Record) → inRangeAfter before r ≡ true → recordInRange (room Kind.Header) r ≡ true
+after-writable : (before : Before) (r : Record) → inRangeAfter before r ≡ true → recordInRange (room Kind.WideHeader) r ≡ true
 after-writable Before.Nothing r q = more-range 0 r (omega arith) q
 after-writable (Before.Header h) r q =
     more-range (h .n) r (omega (arith, header-room h (and-left (headerInRange h) _ q) .1, room-most (h .kind))) (and-right (headerInRange h) _ q)

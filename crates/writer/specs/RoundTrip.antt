@@ -10,7 +10,7 @@ use Rattle.kind.specs.Step.{AllInRange}
 use Rattle.schedule.specs.Record.{headerRecord, stepRecord, headerInRange, recordLength, longest}
 use Rattle.schedule.specs.Reader.{readerAnswers}
 use Rattle.schedule.specs.Schedule.{scheduleBytes}
-use Rattle.schedule.specs.RoundTrip.{mayFollow}
+use Rattle.schedule.specs.RoundTrip.{mayFollow, AllBytes}
 use Rattle.writer.specs.Types.{Step, Header, Record, Before, Read, Written}
 use Rattle.writer.specs.Writer.{writerAnswers, writerLeaves}
 
@@ -32,7 +32,7 @@ ReadAfterWrite =
 -- what the reader yields, the writer puts: the bytes that were read
 abbrev pub WriteAfterRead : Type 0
 WriteAfterRead =
-    (bytes : List ℕ) (before : Before) (r : Record) (l : ℕ) → readerAnswers bytes before ≡ Read.Record r l
+    (bytes : List ℕ) → AllBytes bytes → (before : Before) (r : Record) (l : ℕ) → readerAnswers bytes before ≡ Read.Record r l
     → (buffer : List ℕ) (place : ℕ) → place ≤ longest → place + l ≤ length buffer
     → (answersFor (length buffer) place r ≡ Written.Done (place + l)) × (leavesFor buffer place r ≡ sets buffer place (take l bytes))
 

@@ -10,9 +10,9 @@ use Rattle.kind.specs.Kind.{isKind, room}
 use Rattle.writer.specs.Types.{Kind, Record, Written}
 use Rattle.schedule.specs.Record.{recordOf, recordInRange, recordLength, recordBytes, longest}
 
--- participants and logs 1 to 8, parties 0 to 8: the most that a header has room for
+-- participants and logs 1 to 32, parties 0 to 32: the most that a header has room for; a header by its own kind
 abbrev pub isWritable : ℕ → Record → Bool
-isWritable place r = leb place longest && recordInRange (room Kind.Header) r
+isWritable place r = leb place longest && recordInRange (room Kind.WideHeader) r
 
 -- the place after the record, where the buffer has room for that many bytes
 abbrev pub roomAnswer : ℕ → ℕ → Written

@@ -3,10 +3,10 @@ use kind::Kind;
 use number::OUT_OF_RANGE;
 use number::TOO_SHORT;
 use number::UNKNOWN_KIND;
+use number::low;
 use schedule::LONGEST;
 use schedule::Record;
 ghost use mathlib.Core.Path.{_≡_};
-ghost use mathlib.Core.Bool.{true};
 ghost use Prim.Native.Nat.{_+_, _≤_};
 ghost use lib.ListN.{length};
 ghost use lib.Seq.{sets};
@@ -24,28 +24,21 @@ fn writable(place: usize, r: Record) -> bool
     ensures { λ b. ⌜ b ≡ isWritable place r ⌝ }
 {
     if place <= LONGEST {
-        r.in_range(Kind::NARROW)
+        r.in_range(Kind::WIDE)
     } else {
         false
     }
 }
 
-// The kind's byte, and as many numbers as the body has.
+// The kind's byte, and each number of the body by the bytes that it has there.
 fn put(buffer: &mut [u8], place: usize, r: Record)
-    requires { ⌜ (isWritable place r ≡ true) × (place + recordLength r ≤ length (now buffer)) ⌝ }
+    requires { ⌜ place + recordLength r ≤ length (now buffer) ⌝ }
     ensures { λ _. ⌜ now (buffer .exit) ≡ sets (now (buffer .entry)) place (recordBytes r) ⌝ }
 {
     let kind = r.kind;
-    let body = Kind::body(kind);
     buffer[place] = kind.number() as u8;
-    if body == Kind::NO_NUMBER {
-        return;
-    }
-    buffer[place + 1] = r.first as u8;
-    if body == Kind::ONE_NUMBER {
-        return;
-    }
-    buffer[place + 2] = r.second as u8;
+    let next = low::put(buffer, place + 1, kind.first_width(), r.first);
+    low::put(buffer, next, kind.second_width(), r.second);
 }
 
 // A record whose kind is known: 5, 6.

@@ -4,7 +4,7 @@
 use std::process::ExitCode;
 
 use second::model::{check, Figures, Violation, MOST_PARTICIPANTS_OF_MODEL};
-use second::Header;
+use second::{Form, Header};
 
 /// 2 takes a second; 3, the largest that can be given, about five minutes and two gigabytes.
 const LARGEST_N_IF_NONE_IS_GIVEN: u32 = 2;
@@ -42,7 +42,8 @@ fn check_up_to(largest: u32) -> Result<Figures, Violation> {
     let mut sum = Figures::default();
     for n in 1..=largest {
         for votes in 0..1 << n {
-            let figures = check(Header { n, votes })?;
+            let kind = Form::Narrow.header_kind();
+            let figures = check(Header { kind, n, votes })?;
             let Figures {
                 states,
                 steps,

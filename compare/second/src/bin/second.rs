@@ -8,10 +8,8 @@ use second::{run, Refusal};
 const INPUT_BLOCK: usize = 1 << 20;
 const OUTPUT_BLOCK: usize = 1 << 20;
 const MOST_FRAME_BYTES: usize = 65_535;
-/// A report of a step for each of 32,768 bytes and a tail of 59 would fit.
-const MOST_REPORT_BYTES: usize = 32_768 + 59;
-
-const DIGITS: &[u8; 16] = b"0123456789abcdef";
+/// A report of a step for each of 32,768 bytes and a tail of 320 would fit.
+const MOST_REPORT_BYTES: usize = 32_768 + 320;
 
 fn main() -> io::Result<()> {
     let mut input = BufReader::with_capacity(INPUT_BLOCK, io::stdin().lock());
@@ -62,9 +60,15 @@ fn put_hexadecimal(lines: &mut Vec<u8>, report: &[u8]) {
     let place = lines.len();
     lines.resize(place + 2 * report.len(), 0);
     for (pair, &byte) in lines[place..].chunks_exact_mut(2).zip(report) {
-        pair[0] = DIGITS[usize::from(byte >> 4)];
-        pair[1] = DIGITS[usize::from(byte & 15)];
+        pair[0] = digit(byte >> 4);
+        pair[1] = digit(byte & 15);
     }
+}
+
+/// The digit of a number below 16. Worked out instead of looked up, so that many are done at once.
+fn digit(number: u8) -> u8 {
+    let letter = u8::from(number > 9) * (b'a' - b'9' - 1);
+    b'0' + number + letter
 }
 
 fn put_refusal(lines: &mut Vec<u8>, refusal: Refusal) -> io::Result<()> {

@@ -14,7 +14,7 @@ use crate::message;
 use crate::release::take_step;
 use crate::schedule::{
     write_record, Header, Record, CALL_ANSWERED, CALL_ANSWER_LOST, CRASH, DELIVER, DELIVER_COPY,
-    HEADER, LOSE, RESTART, START, TIMEOUT,
+    LOSE, RESTART, START, TIMEOUT,
 };
 use crate::tail::Tail;
 use graph::Graph;
@@ -45,7 +45,7 @@ pub struct Violation {
 impl Violation {
     fn new(clause: &str, header: Header, steps: &[Record]) -> Violation {
         let first = Record {
-            kind: HEADER,
+            kind: header.kind,
             first: header.n,
             second: header.votes,
         };
@@ -61,7 +61,7 @@ impl Violation {
 }
 
 fn record_bytes(record: Record) -> Vec<u8> {
-    let mut bytes = [0; 3];
+    let mut bytes = [0; 6];
     let written = write_record(&mut bytes, 0, record.kind, record.first, record.second);
     bytes[..written.unwrap_or(0)].to_vec()
 }

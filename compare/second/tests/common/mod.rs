@@ -3,7 +3,7 @@
 // Each test file uses a part of these.
 #![allow(dead_code)]
 
-use second::{Header, Record, Tail};
+use second::{Form, Header, Record, Tail};
 
 /// The bytes of a text such as `01 0A FF`.
 pub fn bytes(text: &str) -> Vec<u8> {
@@ -34,15 +34,70 @@ pub fn steps(n: u32) -> Vec<Record> {
     steps
 }
 
-/// Every header that a schedule may carry.
+/// A header of kind 01.
+pub const fn narrow(n: u32, votes: u32) -> Header {
+    let kind = 0x01;
+    Header { kind, n, votes }
+}
+
+/// A header of kind 0B.
+pub const fn wide(n: u32, votes: u32) -> Header {
+    let kind = 0x0B;
+    Header { kind, n, votes }
+}
+
+/// Every header of kind 01 that a schedule may carry.
 pub fn headers() -> Vec<Header> {
     (1..=8)
-        .flat_map(|n| (0..1 << n).map(move |votes| Header { n, votes }))
+        .flat_map(|n| (0..1 << n).map(move |votes| narrow(n, votes)))
         .collect()
 }
 
+/// For every n, headers of kind 0B with no vote, all votes, and some of them.
+pub fn wide_headers() -> Vec<Header> {
+    let votes = [0, u32::MAX, 0x8000_0001, 0x5555_5555, 0xAAAA_AAAA];
+    (1..=32)
+        .flat_map(|n| votes.map(|votes| wide(n, votes & full(n))))
+        .collect()
+}
+
+/// The mask of participants 1 to n.
+pub fn full(n: u32) -> u32 {
+    ((1_u64 << n) - 1) as u32
+}
+
+/// The bytes of a header.
+pub fn header_bytes(header: Header) -> Vec<u8> {
+    let mut bytes = vec![header.kind as u8, header.n as u8];
+    match header.kind {
+        0x0B => bytes.extend(header.votes.to_le_bytes()),
+        _ => bytes.push(header.votes as u8),
+    }
+    bytes
+}
+
 pub fn fresh(n: u32, votes: u32) -> Tail {
-    Tail::fresh(Header { n, votes })
+    Tail::fresh(wide(n, votes))
+}
+
+/// The length of the tail under this header.
+pub fn tail_length(header: Header) -> usize {
+    match header.kind {
+        0x0B => 320,
+        _ => 59,
+    }
+}
+
+/// The step bytes of an accepted schedule's report, and the state in its tail.
+pub fn report(schedule: &[u8]) -> (Vec<u8>, Tail) {
+    let mut report = vec![0; 34_000];
+    let length = second::run(schedule, &mut report).expect("accepted");
+    let (form, tail) = match schedule[0] {
+        0x0B => (Form::Wide, 320),
+        _ => (Form::Narrow, 59),
+    };
+    let (steps, tail) = report[..length].split_at(length - tail);
+    (steps.to_vec(), Tail::from_bytes(form, tail))
 }
 
 /// A participant with its n, own number, state and heard mask.

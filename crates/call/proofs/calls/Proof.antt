@@ -1,8 +1,5 @@
--- `call::calls` meets its contract, case by case. Assumes nothing.
-use Prim.Native.Nat.{suc}
-use native.Mathlib.Omega.{arith}
-use Rattle.rules.specs.Step.{calls}
-use Rattle.call.proofs.Calling.{numbered-log}
+-- `call::calls` meets its contract: the store has what the call left of its log. Assumes nothing.
+use mathlib.Core.Path.{sym}
 use borrow.Author.Needs.{needs}
 use Rattle.call.proofs.calls.Statement.{statement}
 use Rattle.call.proofs.calls.Tie as tie
@@ -12,7 +9,7 @@ calls-spec =
     tie.close
     (tie.spec
     (λ c κs. search needs)
-    (λ c. search needs)
     (λ c κs. search needs)
-    (λ c. rw (c .before .before .if1 .taken) (c .coordinator-calls .ensures))
-    (λ c. let start = c .before .before .before in numbered-log _ (λ p. calls (start .args .heard) p (suc (start .args .j))) _ _ _ _ _ _ _ (omega arith) (c .participant-calls .ensures)))
+    (λ c κs. search needs)
+    (λ c κs. search needs)
+    (λ c. rw (c .new .ensures, c .before .with-log .ensures) (c .before .before .before .party-calls .ensures (c .before .before .before .before .before .before .args .store) (sym (c .before .before .before .before .log-at .ensures)))))

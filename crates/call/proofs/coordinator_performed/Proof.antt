@@ -2,7 +2,7 @@
 use lib.Dec.{lit<}
 use Rattle.coordinator.specs.Coordinator
 use Rattle.rules.specs.Step.{coordinatorAnswered}
-use Rattle.call.proofs.Calling.{idles, reads-log}
+use Rattle.call.proofs.Calling.{idles-on, reads-called}
 use borrow.Author.Needs.{needs}
 use Rattle.call.proofs.coordinator_performed.Statement.{statement}
 use Rattle.call.proofs.coordinator_performed.Tie as tie
@@ -16,6 +16,5 @@ coordinator-performed-spec =
     (λ c. search needs)
     (λ c κs. search needs)
     (λ c κs. search needs)
-    (λ c κs. search needs)
-    (λ c. rw (c .before .enum-told .given .1, c .new .ensures) (idles _ _ _))
-    (λ c. let start = c .before .before .before .before .before .before .before .before in rw (c .before .before .before .before .before .before .l .given .1) (reads-log _ 0 _ _ _ (lit< tt) (λ n v d p x. coordinatorAnswered (start .args .heard) (start .args .j) (c .before .before .before .before .before .before .l .given .0 .0) (Coordinator.onAnswer n d (start .args .j) (c .before .before .before .before .before .before .l .given .0 .0 .answer))) 0 _ _ _ (rw (c .before .answer .ensures, c .before .before .before .coordinator .ensures) at (c .coordinator-answered .ensures)))))
+    (λ c. rw (c .before .enum-told .given .1, c .new .ensures) (idles-on _ _ _ _))
+    (λ c. let start = c .before .before .before .before .before .before in rw (c .before .before .before .before .l .given .1) (reads-called _ 0 _ _ _ (lit< tt) (λ n v d p x. coordinatorAnswered (start .args .heard) (start .args .j) (c .before .before .before .before .l .given .0 .0) (Coordinator.onAnswer n d (start .args .j) (c .before .before .before .before .l .given .0 .0 .answer))) (start .args .j) _ _ _ (rw (c .before .answer .ensures, start .pre .3) at (c .coordinator-answered .ensures)))))

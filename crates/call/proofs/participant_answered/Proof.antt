@@ -5,7 +5,7 @@ use native.Mathlib.Omega.{arith}
 use native.Mathlib.Numerals.{add-one}
 use Rattle.rules.specs.Step.{moved}
 use Rattle.effect.proofs.Leading.{under}
-use Rattle.call.proofs.Calling.{idles, after-call}
+use Rattle.call.proofs.Calling.{idles-on, after-called}
 use borrow.Author.Needs.{needs}
 use Rattle.call.proofs.participant_answered.Statement.{statement}
 use Rattle.call.proofs.participant_answered.Tie as tie
@@ -24,7 +24,6 @@ participant-answered-spec =
     (λ c κs. search needs)
     (λ c κs. search needs)
     (λ c κs. search needs)
-    (λ c κs. search needs)
-    (λ c. rw (c .before .enum-told .given .1, c .new .ensures) (λ n. idles n _ _))
-    (λ c. let start = c .before .before .before .before .before .before .before .before .before .before .before .before in λ n. rw (c .before .before .before .before .before .before .before .before .before .before .t .given .1, c .before .before .before .if1 .taken, c .new2 .ensures, ← add-one (start .args .i)) (after-call n _ (start .args .i + 1) _ _ _ _ _ _ _ _ _ (omega (arith, start .pre .0)) (c .before .before .before .before .before .before .before .before .closes .ensures) (c .before .before .before .before .with-log .ensures) (rw (c .before .before .before .before .before .count-call .ensures) at (under n _ _ _ _ (c .before .participant-to .ensures)))))
-    (λ c. let start = c .before .before .before .before .before .before .before .before .before .before in λ n. rw (c .before .before .before .before .before .before .before .before .t .given .1, c .before .if1 .left, c .new3 .ensures, ← add-one (start .args .i)) (after-call n moved (start .args .i + 1) _ _ _ _ _ _ _ _ _ (omega (arith, start .pre .0)) (c .before .before .before .before .before .before .closes .ensures) (c .before .before .with-log .ensures) (rw (c .before .before .before .count-call .ensures) (λ r h q e. (refl, e, refl, refl))))))
+    (λ c. rw (c .before .enum-told .given .1, c .new .ensures) (λ n. idles-on n _ _ _))
+    (λ c. let start = c .before .before .before .before .before .before .before .before .before .before .before in λ n. rw (c .before .before .before .before .before .before .before .before .before .t .given .1, c .before .before .before .if1 .taken, c .new2 .ensures, ← add-one (start .args .i)) (after-called n _ (start .args .i + 1) _ _ _ _ _ _ _ _ (omega (arith, start .pre .0)) (c .before .before .before .before .before .before .before .closes .ensures) (rw (c .before .before .before .before .count-call .ensures) at (under n _ _ _ _ (c .before .participant-to .ensures)))))
+    (λ c. let start = c .before .before .before .before .before .before .before .before .before in λ n. rw (c .before .before .before .before .before .before .before .t .given .1, c .before .if1 .left, c .new3 .ensures, ← add-one (start .args .i)) (after-called n moved (start .args .i + 1) _ _ _ _ _ _ _ _ (omega (arith, start .pre .0)) (c .before .before .before .before .before .closes .ensures) (rw (c .before .before .count-call .ensures) (λ r h q e. (refl, e, refl, refl))))))

@@ -14,5 +14,5 @@ pack-read-spec =
     (λ c. search needs)
     (λ c. search needs)
     (λ c κs. search needs)
-    (λ c. simp (c .four .ensures, c .before .number .ensures, c .before .before .before .r .given .1))
-    (λ c. simp (c .pack .ensures, c .before .before .r2 .given .1)))
+    (λ c. simp (c .seven .ensures, c .before .number .ensures, c .before .before .before .r .given .1))
+    (λ c. simp (c .seven2 .ensures, c .before .before .r2 .given .1)))

@@ -14,7 +14,7 @@ use Rattle.listing.proofs.list_refusal.Statement.{statement}
 use Rattle.listing.proofs.list_refusal.Tie as tie
 
 -- the refusal's line has room
-fits : (c : tie.After-last) → length (refusalLine (c .before .before .args .k) (c .before .before .args .place)) ≤ 96
+fits : (c : tie.After-last) → length (refusalLine (c .before .before .args .k) (c .before .before .args .place)) ≤ 320
 fits c =
     let args = c .before .before .args in
     omega (arith, refusal-length (args .k) (args .place), decimal-length 10 (args .k) (omega arith) (omega arith), decimal-length 20 (args .place) (omega arith) (omega arith))

@@ -49,7 +49,7 @@ released c =
     c .release .ensures ∙ run-release (start .args .schedule .now) (start .args .header) (start .args .steps) (start .pre) _ _ (ran .numbers) (ran .store)
 
 -- its last lines are short
-small : (c : tie.After-release) → (c .release .result .n ≤ places) × (length (endLines (c .release .result)) ≤ 89)
+small : (c : tie.After-release) → (c .release .result .n ≤ places) × (length (endLines (c .release .result)) ≤ 305)
 small c =
     let start = c .before .before .before .before .before .before .before .before .before in
     run-small (start .args .schedule .now) (start .args .header) (start .args .steps) (start .pre) (c .release .result) (released c)

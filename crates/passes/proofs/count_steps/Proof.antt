@@ -21,14 +21,14 @@ abbrev μ-loop : tie.MeasureT-loop
 μ-loop schedule start header at₀ steps₀ at steps = length schedule - at
 
 -- what the reader was handed is what is left of the schedule
-read-here : (c : tie.After-read-record Inv-loop μ-loop) →
+read-here : (c : tie.After-read-step Inv-loop μ-loop) →
     let at = c .before .before .before in
     let args = at .before .before .args in
-    c .read-record .result ≡ readerAnswers (drop (at .loop .at) (args .schedule .now)) (Before.Header (args .header))
+    c .read-step .result ≡ readerAnswers (drop (at .loop .at) (args .schedule .now)) (Before.Header (args .header))
 read-here c =
     let at = c .before .before .before in
     let args = at .before .before .args in
-    c .read-record .ensures ∙ ap (λ l. readerAnswers l (Before.Header (args .header))) (tail-part (args .schedule .now) (at .loop .at))
+    c .read-step .ensures ∙ ap (λ l. readerAnswers l (Before.Header (args .header))) (tail-part (args .schedule .now) (at .loop .at))
 
 first : (c : tie.After-found Inv-loop μ-loop) →
     let at = c .before .before .before .before .before in

@@ -1,4 +1,6 @@
 -- `replay::main` meets its contract: its buffers have room for a frame, a report and a line of the greatest length. Assumes nothing.
+use lib.Dec.{lit≤}
+use lib.ListN.{length-replicate}
 use borrow.Author.Needs.{needs}
 use Rattle.replay.proofs.main.Statement.{statement}
 use Rattle.replay.proofs.main.Tie as tie
@@ -10,5 +12,5 @@ main-spec =
     (λ c. search needs)
     (λ c. search needs)
     (λ c. search needs)
-    (λ c κs. (search needs, search needs, search needs))
+    (λ c κs. (simp length-replicate (lit≤ tt), simp length-replicate (lit≤ tt), simp length-replicate (lit≤ tt)))
     (λ c. search needs))

@@ -1,6 +1,10 @@
--- `text::digit` meets its contract, case by case. Assumes nothing.
+-- `text::digit` meets its contract. Assumes nothing.
+use mathlib.Core.Path.{ap, _∙_}
+use Prim.Native.Nat.{_+_}
+use native.Mathlib.Omega.{arith}
+use lib.Dec.{ltb}
+use Rattle.text.proofs.Laws.{digit-sum, beyond-most}
 use borrow.Author.Needs.{needs}
-use borrow.Author.Tests.{lt-ltb, le-ltb}
 use Rattle.text.proofs.digit.Statement.{statement}
 use Rattle.text.proofs.digit.Tie as tie
 
@@ -9,6 +13,6 @@ digit-spec =
     tie.close
     (tie.spec
     (λ c. search needs)
-    (λ c. search needs)
-    (λ c. simp (lt-ltb _ _ (c .if1 .taken)))
-    (λ c. simp (le-ltb _ _ (c .if1 .left))))
+    (λ c κs. search needs)
+    (λ c. omega (arith, c .beyond .ensures, beyond-most (ltb (c .before .args .d) 10), c .before .pre))
+    (λ c. ap (λ x. 48 + c .before .args .d + x) (c .beyond .ensures) ∙ digit-sum (c .before .args .d)))

@@ -16,7 +16,7 @@ write-kind-spec =
     (λ c κs. search needs)
     (λ c. omega (arith, writable-place (c .before .before .before .before .args .place) (c .before .before .before .before .args .r) (sym (c .before .before .writable .ensures) ∙ c .before .if1 .taken), c .length .ensures, body-most (c .before .before .before .before .args .r .kind)))
     (λ c. simp (lt-ltb _ _ (c .if2 .taken), ← c .before .length .ensures, c .before .before .if1 .taken, ← c .before .before .before .writable .ensures) (refl, refl))
-    (λ c κs. (sym (c .before .before .before .before .writable .ensures) ∙ c .before .before .before .if1 .taken, omega (arith, c .before .before .length .ensures, c .before .if2 .left)))
+    (λ c κs. omega (arith, c .before .before .length .ensures, c .before .if2 .left))
     (λ c. search needs)
     (λ c. simp (← c .before .before .put .ensures, le-ltb _ _ (c .before .before .before .before .if2 .left), ← c .before .before .before .before .before .length .ensures, c .before .before .before .before .before .before .if1 .taken, ← c .before .before .before .before .before .before .before .writable .ensures) (refl, refl))
     (λ c. simp (c .if1 .left, ← c .before .writable .ensures) (refl, refl)))

@@ -5,7 +5,7 @@ use lib.Seq.{sets}
 use borrow.Author.Tests.{eq-eqb, ne-eqb}
 use borrow.Author.Needs.{needs}
 use Rattle.state.specs.Fields.{fields}
-use Rattle.form.specs.Form.{narrow, tailBytes}
+use Rattle.form.specs.Form.{wide, tailBytes}
 use Rattle.layout.specs.Numbers.{tailFrom}
 use Rattle.form.proofs.Fits.{form-fits}
 use Rattle.layout.proofs.Source.{tail-from}
@@ -18,7 +18,7 @@ use Rattle.export.proofs.single.hand_over.Tie as tie
 put-here : (c : tie.After-form-of) →
     let args = c .before .before .before .before .before .before .before .before .before .before .before .before .args in
     tailBytes (c .form-of .result) (tailFrom (c .before .before .before .before .fields-of .result) (c .before .before .before .before .before .release .result .store))
-    ≡ tailBytes narrow (args .stepped .state)
+    ≡ tailBytes wide (args .stepped .state)
 put-here c =
     let start = c .before .before .before .before .before .before .before .before .before .before .before .before in
     let t : Tail = start .args .stepped .state in
@@ -37,7 +37,7 @@ hand-over-spec =
     (λ c κs. search needs)
     (λ c κs. search needs)
     (λ c κs. search needs)
-    (λ c κs. rw (c .form-of .ensures) (form-fits Kind.Header, c .before .before .before .before .before .before .before .before .before .before .before .before .pre .0))
+    (λ c κs. rw (c .form-of .ensures) (form-fits Kind.WideHeader, c .before .before .before .before .before .before .before .before .before .before .before .before .pre .0))
     (λ c. search needs)
-    (λ c. let args = c .before .before .before .before .before .before .before .before .before .before .before .before .before .before .before .args in (c .before .before .before .before .before .before .before .before .before .before .before .four .ensures, c .before .before .put-tail .ensures .leaves ∙ ap (sets (args .state .now) 0) (put-here (c .before .before .before)) ∙ sym (ap (λ b. cond b (sets (args .state .now) 0 (tailBytes narrow (args .stepped .state))) (args .state .now)) (eq-eqb _ _ (c .before .before .before .before .before .before .before .before .before .if1 .taken)))))
-    (λ c. let args = c .before .before .before .before .before .before .args in (c .before .before .four .ensures, sym (ap (λ b. cond b (sets (args .state .now) 0 (tailBytes narrow (args .stepped .state))) (args .state .now)) (ne-eqb _ _ (c .if1 .left))))))
+    (λ c. let args = c .before .before .before .before .before .before .before .before .before .before .before .before .before .before .before .args in (c .before .before .before .before .before .before .before .before .before .before .before .four .ensures, c .before .before .put-tail .ensures .leaves ∙ ap (sets (args .state .now) 0) (put-here (c .before .before .before)) ∙ sym (ap (λ b. cond b (sets (args .state .now) 0 (tailBytes wide (args .stepped .state))) (args .state .now)) (eq-eqb _ _ (c .before .before .before .before .before .before .before .before .before .if1 .taken)))))
+    (λ c. let args = c .before .before .before .before .before .before .args in (c .before .before .four .ensures, sym (ap (λ b. cond b (sets (args .state .now) 0 (tailBytes wide (args .stepped .state))) (args .state .now)) (ne-eqb _ _ (c .if1 .left))))))

@@ -1,6 +1,6 @@
--- `kind::Kind::body` meets its contract, by its number. Assumes nothing.
-use borrow.Author.Tests.{le-leb, lt-leb, eq-eqb, ne-eqb}
-use Rattle.kind.proofs.Names.{body-numbers}
+-- `kind::Kind::body` meets its contract. Assumes nothing.
+use native.Mathlib.Omega.{arith}
+use Rattle.kind.proofs.Numbers.{first-most, second-most}
 use borrow.Author.Needs.{needs}
 use Rattle.kind.proofs.Kind.body.Statement.{statement}
 use Rattle.kind.proofs.Kind.body.Tie as tie
@@ -10,6 +10,6 @@ body-spec =
     tie.close
     (tie.spec
     (λ c κs. search needs)
-    (λ c. simp (← body-numbers (c .before .before .args .k), ← c .before .number .ensures, eq-eqb _ _ (c .if1 .taken)))
-    (λ c. simp (← body-numbers (c .before .before .before .args .k), ← c .before .before .number .ensures, ne-eqb _ _ (c .before .if1 .left), le-leb _ _ (c .if2 .taken)))
-    (λ c. simp (← body-numbers (c .before .before .before .args .k), ← c .before .before .number .ensures, ne-eqb _ _ (c .before .if1 .left), lt-leb _ _ (c .if2 .left))))
+    (λ c κs. search needs)
+    (λ c. omega (arith, c .second-width .ensures, c .before .first-width .ensures, first-most (c .before .before .args .k), second-most (c .before .before .args .k)))
+    (λ c. simp (c .second-width .ensures, c .before .first-width .ensures)))

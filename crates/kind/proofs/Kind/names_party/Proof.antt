@@ -9,4 +9,5 @@ names-party-spec =
     tie.close
     (tie.spec
     (λ c κs. search needs)
-    (λ c. simp (c .number .ensures, names-party (c .before .args .self))))
+    (λ c κs. search needs)
+    (λ c. simp (c .between .ensures, c .before .number .ensures, names-party (c .before .before .args .self))))
