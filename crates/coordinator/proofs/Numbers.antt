@@ -10,7 +10,7 @@ use Rattle.number.proofs.Laws.{and-left, inverse2}
 use Rattle.coordinator.specs.Types.{Coordinator}
 use Rattle.coordinator.specs.Coordinator
 
-coordinator-decoded : (c : Coordinator) → Coordinator.coordinatorOf (Coordinator.stateNumber c) (Coordinator.heardOf c) ≡ c
+coordinator-decoded : (c : Coordinator) → Coordinator.ofNumbers (Coordinator.stateNumber c) (Coordinator.heardOf c) ≡ c
 coordinator-decoded Coordinator.Idle = refl
 coordinator-decoded (Coordinator.Waiting h) = refl
 coordinator-decoded (Coordinator.Terminating h) = refl
@@ -19,8 +19,8 @@ coordinator-decoded Coordinator.Abort = refl
 coordinator-decoded Coordinator.Down = refl
 coordinator-decoded Coordinator.Retired = refl
 
-pub coordinator-numbers : Inverse2 Coordinator.stateNumber Coordinator.heardOf Coordinator.coordinatorOf
-coordinator-numbers = inverse2 Coordinator.stateNumber Coordinator.heardOf Coordinator.coordinatorOf coordinator-decoded
+pub coordinator-numbers : Inverse2 Coordinator.stateNumber Coordinator.heardOf Coordinator.ofNumbers
+coordinator-numbers = inverse2 Coordinator.stateNumber Coordinator.heardOf Coordinator.ofNumbers coordinator-decoded
 
 pub state-most : (c : Coordinator) → Coordinator.stateNumber c ≤ 6
 state-most Coordinator.Idle = lit≤ tt

@@ -31,11 +31,11 @@ heardOf Down = 0
 heardOf Retired = 0
 
 -- back from the numbers of state and heard mask
-abbrev pub coordinatorOf : ℕ → ℕ → Coordinator
-coordinatorOf s h = numbered stateNumber Idle (Waiting h ∷ Terminating h ∷ Commit ∷ Abort ∷ Down ∷ Retired ∷ []) s
+abbrev pub ofNumbers : ℕ → ℕ → Coordinator
+ofNumbers s h = numbered stateNumber Idle (Waiting h ∷ Terminating h ∷ Commit ∷ Abort ∷ Down ∷ Retired ∷ []) s
 
 abbrev pub isCoordinator : ℕ → ℕ → Bool
-isCoordinator s h = areNumbers stateNumber heardOf coordinatorOf s h
+isCoordinator s h = areNumbers stateNumber heardOf ofNumbers s h
 
 -- and never full there
 abbrev pub heardInRange : ℕ → ℕ → Bool
@@ -51,7 +51,7 @@ inRange n Down = true
 inRange n Retired = true
 
 abbrev pub numbersInRange : ℕ → ℕ → ℕ → Bool
-numbersInRange n s h = isCoordinator s h && inRange n (coordinatorOf s h)
+numbersInRange n s h = isCoordinator s h && inRange n (ofNumbers s h)
 
 -- to a state, with nothing sent
 abbrev pub to : Coordinator → CoordinatorTransition

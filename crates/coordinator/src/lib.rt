@@ -5,7 +5,7 @@ use store::Call;
 use store::LogRecord;
 ghost use mathlib.Core.Path.{_≡_};
 ghost use Prim.Native.Nat.{_≤_, _<_};
-ghost use Rattle.coordinator.specs.Coordinator.{stateNumber, heardOf, coordinatorOf, isCoordinator, heardInRange, inRange, numbersInRange, to, enters, onStart, unlessFull, onReplyYes, onReplyAbort, onTimeout, pending, onHeard, onAnswer, onCrash, onRestart};
+ghost use Rattle.coordinator.specs.Coordinator.{stateNumber, heardOf, ofNumbers, isCoordinator, heardInRange, inRange, numbersInRange, to, enters, onStart, unlessFull, onReplyYes, onReplyAbort, onTimeout, pending, onHeard, onAnswer, onCrash, onRestart};
 
 // The coordinator in its state. Waiting and terminating, it has the mask of the participants heard.
 pub enum Coordinator {
@@ -76,7 +76,7 @@ impl Coordinator {
 
     // The coordinator in a state with a heard mask, by their numbers.
     pub fn of(state: u32, heard: u32) -> Coordinator
-        ensures { λ c. ⌜ c ≡ coordinatorOf state heard ⌝ }
+        ensures { λ c. ⌜ c ≡ ofNumbers state heard ⌝ }
     {
         match state {
             1 => Coordinator::Waiting(heard),

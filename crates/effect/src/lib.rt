@@ -23,7 +23,7 @@ ghost use mathlib.Core.Path.{_≡_};
 ghost use Prim.Native.Nat.{_≤_, _<_};
 ghost use Rattle.mask.specs.Mask.{has};
 ghost use Rattle.store.specs.Log.{places};
-ghost use Rattle.rules.specs.Step.{drop, reply, participantTo, participantGoes, broadcast, coordinatorTo, coordinatorGoes, receive};
+ghost use Rattle.rules.specs.Step.{takeOut, reply, participantTo, participantGoes, broadcast, coordinatorTo, coordinatorGoes, receive};
 ghost use Rattle.state.specs.Fields.{maskIn, Puts};
 ghost use Rattle.effect.specs.Leads.{PutsUnder, Leads, LeadsUnder};
 
@@ -60,8 +60,8 @@ pub fn in_flight(fields: &[u32; FIELDS], m: Message, i: u32) -> bool
 }
 
 // It is in flight no longer.
-pub fn drop(fields: &mut [u32; FIELDS], m: Message, i: u32)
-    ensures { λ _. ⌜ Puts (drop m i) (now (fields .entry)) (now (fields .exit)) ⌝ }
+pub fn take_out(fields: &mut [u32; FIELDS], m: Message, i: u32)
+    ensures { λ _. ⌜ Puts (takeOut m i) (now (fields .entry)) (now (fields .exit)) ⌝ }
 {
     let old = mask_of(fields, m);
     put_mask(fields, m, mask::remove(old, i));

@@ -38,5 +38,5 @@ abbrev pub answerPacked : ℕ → Bool → ℕ
 answerPacked answer wrote = answer + cond wrote 4 0
 
 -- the refusal's number or 0, the log's first and last record, the record answered
-abbrev pub entryPacked : Entry.Handed → ℕ
+abbrev pub entryPacked : Entry.EntryHanded → ℕ
 entryPacked h = fourBytes (h .number) (recordNumber (h .log .first)) (recordNumber (h .log .last)) (answerPacked (h .answer) (h .wrote))

@@ -22,9 +22,9 @@ ghost use Rattle.number.specs.Refusal.{hands};
 ghost use Rattle.store.specs.Log.{recordNumber, recordOf};
 ghost use Rattle.store.specs.Entry.{handed, logOnceEntry, logEntry};
 ghost use Rattle.schedule.specs.Reader.{readerAnswers};
-ghost use Rattle.writer.specs.Writer.{writtenHands, writerAnswers, writerLeaves};
-ghost use Rattle.marker.specs.Run.{runAnswers, runLeaves};
-ghost use Rattle.listing.specs.Listing.{listAnswers, listLeaves};
+ghost use Rattle.writer.specs.Writer.{writtenHands, writerHands, writerLeaves};
+ghost use Rattle.marker.specs.Run.{runHands, runLeaves};
+ghost use Rattle.listing.specs.Listing.{listHands, listLeaves};
 ghost use Rattle.export.specs.Packed.{packed, fourBytes, sevenBytes, readPacked, answerPacked, entryPacked, beforeOf, pairOf};
 
 // A refusal's number or 0 in the upper 32 bits, what is handed over with it in the lower ones.
@@ -134,7 +134,7 @@ fn pair(first: u32, last: u32) -> LogPair
 
 #[no_mangle]
 pub extern "C" fn compare_run(schedule: &[u8], report: &mut [u8]) -> u64
-    ensures { λ x. ⌜ (x ≡ packed (writtenHands (runAnswers (length (now (report .entry))) (now (schedule .entry)))))
+    ensures { λ x. ⌜ (x ≡ packed (runHands (length (now (report .entry))) (now (schedule .entry))))
         × (now (report .exit) ≡ runLeaves (now (report .entry)) (now (schedule .entry))) ⌝ }
 {
     pack_written(run(schedule, report))
@@ -142,7 +142,7 @@ pub extern "C" fn compare_run(schedule: &[u8], report: &mut [u8]) -> u64
 
 #[no_mangle]
 pub extern "C" fn compare_list(schedule: &[u8], text: &mut [u8]) -> u64
-    ensures { λ x. ⌜ (x ≡ packed (writtenHands (listAnswers (length (now (text .entry))) (now (schedule .entry)))))
+    ensures { λ x. ⌜ (x ≡ packed (listHands (length (now (text .entry))) (now (schedule .entry))))
         × (now (text .exit) ≡ listLeaves (now (text .entry)) (now (schedule .entry))) ⌝ }
 {
     pack_written(list(schedule, text))
@@ -156,7 +156,7 @@ pub extern "C" fn compare_write(
     first: u32,
     second: u32,
 ) -> u64
-    ensures { λ x. ⌜ (x ≡ packed (writtenHands (writerAnswers (length (now (buffer .entry))) place kind first second)))
+    ensures { λ x. ⌜ (x ≡ packed (writerHands (length (now (buffer .entry))) place kind first second))
         × (now (buffer .exit) ≡ writerLeaves (now (buffer .entry)) place kind first second) ⌝ }
 {
     pack_written(write_record(buffer, place as usize, kind, first, second))

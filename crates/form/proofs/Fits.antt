@@ -61,10 +61,10 @@ module _ (w n i : ℕ) (f : ParticipantFields) (fits : (m : ℕ) → within n m 
   fields-fit true q =
       let p = and-left (Participant.numbersInRange n i (f .state) (f .heard)) _ q in
       let e = participant-numbers .encoded (f .state) (f .heard) (and-left _ _ p) in
-      let h = heard-within n i (Participant.participantOf (f .state) (f .heard)) (and-right (Participant.isParticipant (f .state) (f .heard)) _ p) in
+      let h = heard-within n i (Participant.ofNumbers (f .state) (f .heard)) (and-right (Participant.isParticipant (f .state) (f .heard)) _ p) in
       let r = and-right (Participant.numbersInRange n i (f .state) (f .heard)) _ q in
       record {
-        state = omega (arith, state-most (Participant.participantOf (f .state) (f .heard)), e .0);
+        state = omega (arith, state-most (Participant.ofNumbers (f .state) (f .heard)), e .0);
         heard = fits (f .heard) (rw (e .1) at h);
         first = record-small (f .first) (and-left (isRecord (f .first)) _ r);
         last = record-small (f .last) (and-left (isRecord (f .last)) _ (and-right (isRecord (f .first)) _ r));
@@ -78,8 +78,8 @@ range-fits k t has q =
       within = form-fits k .0;
       n = omega (arith, size .1, room-most k);
       votes = fits (t .votes) (header-votes (headerOf k t) header);
-      state = omega (arith, coordinator-state-most (Coordinator.coordinatorOf (t .state) (t .heard)), own .0);
-      heard = fits (t .heard) (rw (own .1) at (coordinator-heard-within (t .n) (Coordinator.coordinatorOf (t .state) (t .heard)) (and-right (Coordinator.isCoordinator (t .state) (t .heard)) _ coordinator)));
+      state = omega (arith, coordinator-state-most (Coordinator.ofNumbers (t .state) (t .heard)), own .0);
+      heard = fits (t .heard) (rw (own .1) at (coordinator-heard-within (t .n) (Coordinator.ofNumbers (t .state) (t .heard)) (and-right (Coordinator.isCoordinator (t .state) (t .heard)) _ coordinator)));
       messages = λ m l. fits (getD (t .messages) m 0) (every-at (λ j. within (t .n) (getD (t .messages) j 0)) types m l (and-left (messagesInRange t) _ (and-right (headerInRange (headerOf k t)) _ q)));
       participants = λ i l. fields-fit (formOf k .width) (t .n) i (fieldsAt t i) fits (ltb i (t .n)) (tested i (omega (arith, form-fits k .0)));
       participants-beyond = none;
@@ -99,7 +99,7 @@ range-fits k t has q =
     coordinator : Coordinator.numbersInRange (t .n) (t .state) (t .heard) ≡ true
     coordinator = and-left (Coordinator.numbersInRange (t .n) (t .state) (t .heard)) _ (parties-in-range k t q)
 
-    own : (Coordinator.stateNumber (Coordinator.coordinatorOf (t .state) (t .heard)) ≡ t .state) × (Coordinator.heardOf (Coordinator.coordinatorOf (t .state) (t .heard)) ≡ t .heard)
+    own : (Coordinator.stateNumber (Coordinator.ofNumbers (t .state) (t .heard)) ≡ t .state) × (Coordinator.heardOf (Coordinator.ofNumbers (t .state) (t .heard)) ≡ t .heard)
     own = coordinator-numbers .encoded (t .state) (t .heard) (and-left _ _ coordinator)
 
     tested : (i : ℕ) → i < places → participantInRange (t .n) i (fieldsAt t i) ≡ true

@@ -1,15 +1,16 @@
 -- What program `replay` reads and writes: schedules in frames, and a line for each. Assumes nothing.
 use mathlib.Core.Path.{_≡_}
 use mathlib.Core.Logic.{_⊎_}
-use mathlib.Core.List.{List, _∷_, _++_}
+use mathlib.Core.List.{List, [], _∷_, _++_}
 use Prim.Native.Nat.{ℕ, _+_, _*_, _/_, _%_, _≤_, _<_}
 use lib.ListN.{length, take, drop}
 use Rattle.text.specs.Text.{ascii, hexadecimal, refusalLine}
-use Rattle.text.specs.Put.{each}
+use Rattle.text.specs.Put.{Put, each}
 use Rattle.schedule.specs.Record.{longest}
 use Rattle.schedule.specs.Schedule.{Reading, Accepted, Refused, readSchedule}
 use Rattle.form.specs.Form.{wide, tailLength}
 use Rattle.marker.specs.Report.{reportBytes}
+use Rattle.marker.specs.Run.{runLeaves}
 use Rattle.frame.specs.Types.{Frame}
 
 -- a schedule in its frame: two bytes length, low first, then its bytes
@@ -76,10 +77,31 @@ pub record FramesThen (bytes rest : List ℕ) : Type 0 where
   pub split : bytes ≡ framesOf schedules ++ rest
   pub none : NoFrame rest
 
--- The first `used` bytes of the input are marked: they are frames, and the text is filled with their lines. What is left begins with no whole
--- frame, or the text has no room for a further line of any length
-pub record MarkedUpTo (input : List ℕ) (used : ℕ) (text : List ℕ) (filled : ℕ) : Type 0 where
+-- what the runs of some schedules, one after the other, leave in the lent report
+unfoldable pub reportsLeft : List ℕ → List (List ℕ) → List ℕ
+reportsLeft report [] = report
+reportsLeft report (schedule ∷ schedules) = reportsLeft (runLeaves report schedule) schedules
+
+-- each of some schedules has room for a line of any length, after the lines of those before it, in a text of this length
+abbrev pub EachHasRoom : ℕ → List (List ℕ) → Type 0
+EachHasRoom size schedules = (before after : List (List ℕ)) (schedule : List ℕ) → schedules ≡ before ++ (schedule ∷ after)
+    → length (linesOf before) + longestLine ≤ size
+
+-- With this input, text and report, the first `used` bytes of the input are marked: they are the frames of some schedules, each taken while there
+-- was room; their lines are put at the front of the text, up to `filled`, and the report is as their runs leave it. What is left begins with no
+-- whole frame, or the text has no room for a further line of any length. All of it is determined: proved in proofs/Frames.antt
+
+pub record MarkedUpTo (input text₀ report₀ : List ℕ) (used filled : ℕ) (text report : List ℕ) : Type 0 where
+  pub schedules : List (List ℕ)
   pub taken : used ≤ length input
   pub fits : filled ≤ length text
-  pub lines : LinesOf (take used input) (take filled text)
-  pub stops : NoFrame (drop used input) ⊎ (length text < filled + longestLine)
+  pub framed : take used input ≡ framesOf schedules
+  pub lined : Put text₀ 0 (linesOf schedules) filled text
+  pub leaves : report ≡ reportsLeft report₀ schedules
+  pub room : EachHasRoom (length text₀) schedules
+  pub stops : NoFrame (drop used input) ⊎ (length text₀ < filled + longestLine)
+
+abbrev pub MarkedDetermined : Type 0
+MarkedDetermined = (input text₀ report₀ : List ℕ) (used filled : ℕ) (text report : List ℕ) (used′ filled′ : ℕ) (text′ report′ : List ℕ)
+    → MarkedUpTo input text₀ report₀ used filled text report → MarkedUpTo input text₀ report₀ used′ filled′ text′ report′
+    → (used ≡ used′) × (filled ≡ filled′) × (text ≡ text′) × (report ≡ report′)

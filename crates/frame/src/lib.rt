@@ -72,7 +72,8 @@ pub fn put_line(schedule: &[u8], report: &mut [u8], text: &mut [u8], place: usiz
 // Marks frames from the front, as long as the next one is whole and its line, however long, has room.
 pub fn mark_frames(input: &[u8], report: &mut [u8], text: &mut [u8]) -> Marked
     requires { ⌜ longestReport ≤ length (now report) ⌝ }
-    ensures { λ m. ⌜ MarkedUpTo (now (input .entry)) (m .used) (now (text .exit)) (m .filled) ⌝ }
+    ensures { λ m. ⌜ MarkedUpTo (now (input .entry)) (now (text .entry)) (now (report .entry)) (m .used) (m .filled)
+        (now (text .exit)) (now (report .exit)) ⌝ }
 {
     let mut used: usize = 0;
     let mut filled: usize = 0;

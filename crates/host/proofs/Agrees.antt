@@ -33,7 +33,7 @@ module _ (n i : ℕ) (p : Participant) (e : Event) where
     where
       participant : Participant.numbersInRange n (suc i - 1) (Participant.stateNumber p) (Participant.heardOf p) ≡ true
       participant =
-          and-true _ _ (are-numbers Participant.stateNumber Participant.heardOf Participant.participantOf participant-numbers p)
+          and-true _ _ (are-numbers Participant.stateNumber Participant.heardOf Participant.ofNumbers participant-numbers p)
           (ap₂ (λ (k : ℕ) (x : Participant). Participant.inRange n k x) (omega arith) (participant-numbers .decoded p) ∙ q)
 
   numbers-lead : hostTransition n (suc i) (Participant.stateNumber p) (Participant.heardOf p) (eventNumber e) (detailNumber e) (answerNumber e) ≡ onEvent n i p e

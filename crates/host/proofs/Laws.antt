@@ -28,7 +28,7 @@ pub record Given (n own s h e d r : ℕ) : Type 0 where
   pub size : n ≤ room Kind.WideHeader
   pub first : 1 ≤ own
   pub last : own ≤ n
-  pub participant : Participant.inRange n (own - 1) (Participant.participantOf s h) ≡ true
+  pub participant : Participant.inRange n (own - 1) (Participant.ofNumbers s h) ≡ true
   pub event : eventInRange n (eventOf e d r) ≡ true
 
 pub given : (n own s h e d r : ℕ) → hostInRange n own s h e d r ≡ true → Given n own s h e d r
@@ -55,7 +55,7 @@ event-range : (n i : ℕ) → i < n → (p : Participant) → ParticipantInRange
 event-range n i l p k (Event.Request vote) q = request-range n i l vote p k
 event-range n i l p k (Event.Decided d) q = decision-range n i l d p k
 event-range n i l p k Event.Timeout q = timeout-range n i l p k
-event-range n i l p k Event.Crash q = crash-cases (ToInRange n i) tt tt p
+event-range n i l p k Event.Crash q = crash-cases (λ p t. ToInRange n i t) (λ p. tt) tt p
 event-range n i l p k Event.Restart q = restart-cases (λ p t. ToInRange n i t) tt (λ p. tt) p
 event-range n i l p k (Event.Answer log r) q =
     let b = between 1 log n (and-left (numberInRange 1 log n) (isWritten r) q) in
@@ -79,5 +79,5 @@ pub heard-fits : (n own s h e d r : ℕ) (p : Participant) (m : Sent) → hostIn
     → Participant.heardOf p < 256 ^ heardWidth
 heard-fits n own s h e d r p m q t =
     let g = given n own s h e d r q in
-    let x = event-range n (own - 1) (omega (arith, g .first, g .last)) (Participant.participantOf s h) (participant-held n (own - 1) (Participant.participantOf s h) (g .participant)) (eventOf e d r) (g .event) in
+    let x = event-range n (own - 1) (omega (arith, g .first, g .last)) (Participant.ofNumbers s h) (participant-held n (own - 1) (Participant.ofNumbers s h) (g .participant)) (eventOf e d r) (g .event) in
     heard-below n (own - 1) p (g .size) (rw t at x)

@@ -10,7 +10,7 @@ use Rattle.mask.specs.Mask.{has, within}
 use Rattle.store.specs.Log.{perform, places}
 use Rattle.participant.specs.Participant
 use Rattle.rules.specs.State.{participantOf, logOf, inFlight, fresh}
-use Rattle.rules.specs.Step.{drop, participantGoes, participantAnswered, step}
+use Rattle.rules.specs.Step.{takeOut, participantGoes, participantAnswered, step}
 use Rattle.rules.specs.Run.{after}
 use Rattle.event.specs.Event.{eventNumber, detailNumber, answerNumber, eventInRange}
 use Rattle.host.specs.Types.{Kind, Logged, Performed, Message, Decision, Transition, Release, Step, Event}
@@ -30,11 +30,11 @@ pub record Agrees (r : Release) (i : ℕ) : Type 0 where
       ≡ left out (leads r i e)
   -- the release: deliveries of messages in flight, with the message taken out or, of a copy, left
   pub request : inFlight r Message.Request i ≡ true
-      → step r (Step.Deliver Message.Request (suc i)) ≡ participantGoes i (leads r i (Event.Request (has i (r .votes)))) (drop Message.Request i r)
+      → step r (Step.Deliver Message.Request (suc i)) ≡ participantGoes i (leads r i (Event.Request (has i (r .votes)))) (takeOut Message.Request i r)
   pub commit : inFlight r Message.Commit i ≡ true
-      → step r (Step.Deliver Message.Commit (suc i)) ≡ participantGoes i (leads r i (Event.Decided Decision.Commit)) (drop Message.Commit i r)
+      → step r (Step.Deliver Message.Commit (suc i)) ≡ participantGoes i (leads r i (Event.Decided Decision.Commit)) (takeOut Message.Commit i r)
   pub abort : inFlight r Message.Abort i ≡ true
-      → step r (Step.Deliver Message.Abort (suc i)) ≡ participantGoes i (leads r i (Event.Decided Decision.Abort)) (drop Message.Abort i r)
+      → step r (Step.Deliver Message.Abort (suc i)) ≡ participantGoes i (leads r i (Event.Decided Decision.Abort)) (takeOut Message.Abort i r)
   pub request-copy : inFlight r Message.Request i ≡ true
       → step r (Step.Copy Message.Request (suc i)) ≡ participantGoes i (leads r i (Event.Request (has i (r .votes)))) r
   pub commit-copy : inFlight r Message.Commit i ≡ true

@@ -38,7 +38,7 @@ hostInRange n own s h e d r =
     numberInRange 1 n (room Kind.WideHeader) && (numberInRange 1 own n && (Participant.numbersInRange n (own - 1) s h && numbersInRange n e d r))
 
 abbrev pub hostTransition : ℕ → ℕ → ℕ → ℕ → ℕ → ℕ → ℕ → Transition
-hostTransition n own s h e d r = onEvent n (own - 1) (Participant.participantOf s h) (eventOf e d r)
+hostTransition n own s h e d r = onEvent n (own - 1) (Participant.ofNumbers s h) (eventOf e d r)
 
 -- Request 2026-03: six bytes come back: state, heard mask in four, low byte first, message type sent or 0
 

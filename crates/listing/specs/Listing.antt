@@ -5,10 +5,11 @@ use Prim.Native.Nat.{ℕ, suc, _≤_}
 use lib.Dec.{ltb}
 use lib.ListN.{length, take}
 use lib.Seq.{sets}
+use Rattle.number.specs.Refusal.{Handed}
 use Rattle.text.specs.Text.{ascii, decimal, refusalLine}
 use Rattle.text.specs.Put.{each}
 use Rattle.schedule.specs.Schedule.{Reading, Accepted, Refused, readSchedule}
-use Rattle.writer.specs.Writer.{roomAnswer}
+use Rattle.writer.specs.Writer.{roomAnswer, writtenHands}
 use Rattle.rules.specs.Run.{reports, after}
 use Rattle.passes.specs.Pass.{freshOf}
 use Rattle.lines.specs.Lines.{reportText, countText, logText}
@@ -50,11 +51,14 @@ longestText = 655605
 abbrev pub ListingFits : Type 0
 ListingFits = (schedule : List ℕ) → length (listing schedule) ≤ longestText
 
--- The listing's entry: the length written, or 6 with the length needed, and then the text is as it was. What each case hands over is
--- `writtenHands`
+-- The listing's entry: the length written, or 6 with the length needed, and then the text is as it was
 
 abbrev pub listAnswers : ℕ → List ℕ → Written
 listAnswers room schedule = roomAnswer room (length (listing schedule))
+
+-- what the answer hands over
+abbrev pub listHands : ℕ → List ℕ → Handed
+listHands room schedule = writtenHands (listAnswers room schedule)
 
 abbrev pub listLeaves : List ℕ → List ℕ → List ℕ
 listLeaves text schedule = cond (ltb (length text) (length (listing schedule))) text (sets text 0 (listing schedule))

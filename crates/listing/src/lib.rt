@@ -24,9 +24,10 @@ ghost use Rattle.text.specs.Text.{refusalLine};
 ghost use Rattle.store.specs.Log.{places};
 ghost use Rattle.schedule.specs.Record.{longest};
 ghost use Rattle.schedule.specs.Schedule.{readSchedule};
+ghost use Rattle.writer.specs.Writer.{writtenHands};
 ghost use Rattle.passes.specs.Pass.{validated};
 ghost use Rattle.passes.specs.declared.Validated.{Validated};
-ghost use Rattle.listing.specs.Listing.{endLines, listAnswers, listLeaves};
+ghost use Rattle.listing.specs.Listing.{endLines, listAnswers, listHands, listLeaves};
 ghost use Rattle.lines.specs.Lines.{byteLines};
 ghost use Rattle.listing.specs.Bytes.{textAnswer, textLeft};
 
@@ -94,6 +95,7 @@ fn list_refusal(k: u32, place: usize, text: &mut [u8]) -> Written
 // Lists a schedule. Answers the length written; a text that is too short is left as it was.
 pub fn list(schedule: &[u8], text: &mut [u8]) -> Written
     ensures { λ x. ⌜ (x ≡ listAnswers (length (now (text .entry))) (now (schedule .entry)))
+        × (writtenHands x ≡ listHands (length (now (text .entry))) (now (schedule .entry)))
         × (now (text .exit) ≡ listLeaves (now (text .entry)) (now (schedule .entry))) ⌝ }
 {
     let first = validate(schedule);

@@ -1,25 +1,29 @@
--- Demand 3 about the marker's own bytes, from demand 3 of the rules: the statements of specs/Demand.antt. Assumes nothing.
-use mathlib.Core.Path.{_≡_, refl, sym, subst, _∙_}
-use mathlib.Core.List.{List, [], _∷_, _++_, List·Memᴰ, List·Memᴰ·head, List·Memᴰ·tail}
+-- Demand 3 and atomic commitment about the marker's own bytes, from those of the rules: the statements of specs/Demand.antt. Assumes nothing.
+use mathlib.Core.Path.{_≡_, refl, sym, ap₂, subst, _∙_}
+use mathlib.Core.Bool.{true}
+use mathlib.Core.List.{List, [], _∷_, _++_, map, List·Memᴰ, List·Memᴰ·head, List·Memᴰ·tail}
 use Prim.Native.Nat.{ℕ, zero, suc, _+_, _<_}
 use native.Mathlib.Omega.{arith}
 use lib.ListN.{length, getD, take, drop}
 use lib.Seq.{split-at}
 use Rattle.store.specs.Log.{places}
+use Rattle.kind.specs.Step.{AllInRange}
+use Rattle.schedule.specs.Record.{headerInRange}
 use Rattle.schedule.specs.Schedule.{scheduleBytes}
-use Rattle.schedule.proofs.Laws.{header-size}
+use Rattle.schedule.proofs.Laws.{header-size, header-votes}
 use Rattle.schedule.proofs.RoundTrip.{steps-kept, read-in-range, few-steps}
 use Rattle.rules.specs.State.{firstOf}
-use Rattle.rules.specs.Report.{stepByte}
+use Rattle.rules.specs.Report.{stepByte, outcomeIn}
 use Rattle.rules.specs.Step.{step}
 use Rattle.rules.specs.Run.{outcomes, after}
 use Rattle.rules.specs.Demand.{Demand, EveryYes, SomeAbort}
 use Rattle.rules.proofs.Bytes.{byte-says}
 use Rattle.rules.proofs.Demand.{demand-holds}
+use Rattle.rules.proofs.History.{commitment-holds}
 use Rattle.passes.specs.Pass.{freshOf, stepBytes}
 use Rattle.passes.proofs.Passed.{bytes-length}
 use Rattle.marker.specs.Types.{Step, Header, Release, Outcome, Report}
-use Rattle.marker.specs.Demand.{Says, BytesHold, ClosedHold, CountsHold, Marked, MarkedHolds, ListMarked}
+use Rattle.marker.specs.Demand.{Says, BytesHold, CommitmentSeen, ClosedHold, CountsHold, Marked, MarkedHolds, ListMarked}
 use Rattle.marker.proofs.Left.{ran, answers, steps-left, tail-left}
 use Rattle.marker.proofs.Steps.{byte-at, after-one-more}
 use Rattle.marker.proofs.Closed.{closed-holds}
@@ -57,6 +61,15 @@ module _ (h : Header) (steps : List Step) (d : Demand places (h .n) (h .votes) s
         no-abort = λ yes calm i l e. d .no-abort yes calm (reported (freshOf h) steps Outcome.Abort i (omega (arith, long)) e);
       }
 
+-- the bytes say what was reported
+outcomes-said : (r : Release) (steps : List Step) → map outcomeIn (stepBytes r steps) ≡ outcomes r steps
+outcomes-said r [] = refl
+outcomes-said r (s ∷ ss) = ap₂ (λ (o : Outcome) (os : List Outcome). o ∷ os) (byte-says (step r s) .0) (outcomes-said (step r s .next) ss)
+
+seen : (h : Header) (steps : List Step) → headerInRange h ≡ true → AllInRange (h .n) steps → CommitmentSeen h steps (stepBytes (freshOf h) steps)
+seen h steps g q =
+    rw (outcomes-said (freshOf h) steps) (commitment-holds places (h .n) (h .votes) (header-size h g .1) (header-votes h g) steps q)
+
 pub marked-holds : MarkedHolds
 marked-holds report schedule written e =
     let x = ran report schedule written e in
@@ -69,6 +82,9 @@ marked-holds report schedule written e =
       length-written = refl;
       bytes =
           subst (BytesHold (x .header) (x .steps)) (sym (steps-left report schedule (x .header) (x .steps) (x .accepted) (x .room))) (of-steps (x .header) (x .steps) d);
+      commitment =
+          subst (CommitmentSeen (x .header) (x .steps)) (sym (steps-left report schedule (x .header) (x .steps) (x .accepted) (x .room)))
+          (seen (x .header) (x .steps) (q .0) (q .1));
       closed =
           subst (ClosedHold (x .header) (x .steps)) (sym (steps-left report schedule (x .header) (x .steps) (x .accepted) (x .room)))
           (closed-holds (x .header) (x .steps) (header-size (x .header) (q .0) .1) (q .1));

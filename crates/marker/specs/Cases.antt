@@ -5,8 +5,7 @@ use mathlib.Core.Bool.{false}
 use mathlib.Core.List.{List, [], _∷_}
 use Prim.Native.Nat.{ℕ, suc, _+_}
 use lib.ListN.{take}
-use Rattle.number.specs.Refusal.{emptyOrTooLong, bodyCutShort, headerMisplaced, outOfRange, refusedByRule}
-use Rattle.store.specs.Entry.{Handed, refused, logOnceEntry, logEntry}
+use Rattle.store.specs.Entry.{EntryHanded, refused, logOnceEntry, logEntry}
 use Rattle.schedule.specs.Schedule.{Reading, Accepted, Refused, readSchedule}
 use Rattle.rules.specs.Report.{outcomeNumber, closedAdds}
 use Rattle.rules.specs.Run.{after}
@@ -23,7 +22,7 @@ pub data Given : Type 0 where
 pub data Gives : Type 0 where
   Reports : List ℕ → List ℕ → List LogPair → Gives
   Refuses : ℕ → ℕ → Gives
-  Hands : Handed → Gives
+  Hands : EntryHanded → Gives
 
 abbrev pub readingGives : Reading → Gives
 readingGives (Accepted h steps) =
@@ -96,17 +95,17 @@ cases =
     -- P5: LogOnce abort on 13 answers commit
     ∷ case (LogOnce LogRecord.Abort yc) (answers 3 yc)
     -- P6: Log commit on 00
-    ∷ case (Log LogRecord.Commit nn) (Hands (refused refusedByRule nn))
+    ∷ case (Log LogRecord.Commit nn) (Hands (refused 9 nn))
     -- P7: empty
-    ∷ case (Schedule []) (Refuses emptyOrTooLong 0)
+    ∷ case (Schedule []) (Refuses 1 0)
     -- P8: accepted, no steps
     ∷ case (Schedule (0x01 ∷ 0x08 ∷ 0xFF ∷ []))
     (Reports [] (0 ∷ 0 ∷ 0 ∷ 0 ∷ 0 ∷ 0 ∷ 0 ∷ 0 ∷ 0 ∷ []) (nn ∷ nn ∷ nn ∷ nn ∷ nn ∷ nn ∷ nn ∷ nn ∷ []))
     -- P9 to P12
-    ∷ case (Schedule (0x01 ∷ 0x09 ∷ 0x00 ∷ [])) (Refuses outOfRange 0)
-    ∷ case (Schedule (0x01 ∷ 0x01 ∷ 0x02 ∷ [])) (Refuses outOfRange 0)
-    ∷ case (Schedule (0x02 ∷ [])) (Refuses headerMisplaced 0)
-    ∷ case (Schedule (0x01 ∷ 0x01 ∷ 0x01 ∷ 0x06 ∷ 0x01 ∷ [])) (Refuses bodyCutShort 3)
+    ∷ case (Schedule (0x01 ∷ 0x09 ∷ 0x00 ∷ [])) (Refuses 5 0)
+    ∷ case (Schedule (0x01 ∷ 0x01 ∷ 0x02 ∷ [])) (Refuses 5 0)
+    ∷ case (Schedule (0x02 ∷ [])) (Refuses 4 0)
+    ∷ case (Schedule (0x01 ∷ 0x01 ∷ 0x01 ∷ 0x06 ∷ 0x01 ∷ [])) (Refuses 3 3)
     -- P13: idle
     ∷ case (Schedule (0x01 ∷ 0x01 ∷ 0x01 ∷ 0x08 ∷ 0x00 ∷ [])) (Reports (idle ∷ []) (0 ∷ 0 ∷ []) (nn ∷ []))
     ∷ []

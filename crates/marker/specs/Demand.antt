@@ -1,13 +1,13 @@
--- Demand 3 about the marker's own bytes, their word `closed`, and the counts of the tail: for every schedule that the run accepts, over what it
--- leaves in the lent report. Participant i is the one at place i. Proved in proofs/Demand.antt, proofs/Closed.antt and proofs/Counts.antt. Assumes
--- nothing.
+-- Demand 3 and atomic commitment about the marker's own bytes, their word `closed`, and the counts of the tail: for every schedule that the run accepts,
+-- over what it leaves in the lent report. Participant i is the one at place i. Proved in proofs/Demand.antt, proofs/Closed.antt and proofs/Counts.antt.
+-- Assumes nothing.
 use mathlib.Core.Path.{_≡_}
 use mathlib.Core.Logic.{_↔_, _≢_}
 use mathlib.Core.Bool.{true}
-use mathlib.Core.List.{List, _++_}
+use mathlib.Core.List.{List, _++_, map}
 use Prim.Native.Nat.{ℕ, suc, _+_, _-_, _≤_, _<_}
 use lib.ListN.{length, getD, take, drop}
-use Rattle.mask.specs.Mask.{full}
+use Rattle.mask.specs.Mask.{has, full}
 use Rattle.store.specs.Log.{places}
 use Rattle.kind.specs.Step.{AllInRange}
 use Rattle.schedule.specs.Record.{headerInRange, longest}
@@ -17,6 +17,8 @@ use Rattle.rules.specs.Report.{outcomeIn, closedIn}
 use Rattle.rules.specs.Run.{after, callsMade}
 use Rattle.rules.specs.Closed.{ClosesAnother}
 use Rattle.rules.specs.Demand.{EveryYes, SomeAbort, Up, AllUndisturbed, Decides, AllCalm}
+use Rattle.rules.specs.Commitment.{AtomicCommitment}
+use Rattle.rules.specs.History.{KeepsGoing, history}
 use Rattle.passes.specs.Pass.{freshOf, stepBytes}
 use Rattle.marker.specs.Types.{Step, Header, Written, Outcome}
 use Rattle.form.specs.Form.{formOf, countAt}
@@ -43,6 +45,10 @@ pub record BytesHold (h : Header) (steps : List Step) (bytes : List ℕ) : Type 
   -- with all votes yes and no timeout or restart, no abort is ever reported
   pub no-abort : h .votes ≡ full (h .n) → AllCalm (freshOf h) steps → (i : ℕ) → i < length bytes → Says Outcome.Abort (getD bytes i 0) → ⊥
 
+-- Atomic commitment, of the history that the steps and their bytes show
+abbrev pub CommitmentSeen : Header → List Step → List ℕ → Type 0
+CommitmentSeen h steps bytes = AtomicCommitment (h .n) (λ i. has i (h .votes)) (KeepsGoing (freshOf h) steps) (history steps (map outcomeIn bytes))
+
 -- Request 2026-01: a byte has the 4 just where its step is a due call of a party on a log that is not its own, empty before and abort afterwards;
 -- 4 and 6 never occur
 pub record ClosedHold (h : Header) (steps : List Step) (bytes : List ℕ) : Type 0 where
@@ -68,6 +74,7 @@ pub record Marked (report schedule : List ℕ) (written : ℕ) : Type 0 where
   pub accepted : readSchedule schedule ≡ Accepted header steps
   pub length-written : written ≡ length steps + tailSize header
   pub bytes : BytesHold header steps (stepsLeft header report schedule written)
+  pub commitment : CommitmentSeen header steps (stepsLeft header report schedule written)
   pub closed : ClosedHold header steps (stepsLeft header report schedule written)
   pub counts : CountsHold header steps (tailLeft header report schedule written)
 

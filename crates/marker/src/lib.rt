@@ -11,9 +11,10 @@ use writer::Written;
 ghost use mathlib.Core.Path.{_≡_};
 ghost use lib.ListN.{length};
 ghost use Rattle.schedule.specs.Schedule.{readSchedule};
+ghost use Rattle.writer.specs.Writer.{writtenHands};
 ghost use Rattle.passes.specs.Pass.{validated};
 ghost use Rattle.passes.specs.declared.Validated.{Validated};
-ghost use Rattle.marker.specs.Run.{runAnswers, runLeaves};
+ghost use Rattle.marker.specs.Run.{runAnswers, runHands, runLeaves};
 
 // Writes the report of a schedule that was validated, where there is room for it.
 fn write_report(schedule: &[u8], header: Header, steps: usize, report: &mut [u8]) -> Written
@@ -36,6 +37,7 @@ fn write_report(schedule: &[u8], header: Header, steps: usize, report: &mut [u8]
 // Marks a schedule. Answers the length written; a refusal leaves the report as it was.
 pub fn run(schedule: &[u8], report: &mut [u8]) -> Written
     ensures { λ x. ⌜ (x ≡ runAnswers (length (now (report .entry))) (now (schedule .entry)))
+        × (writtenHands x ≡ runHands (length (now (report .entry))) (now (schedule .entry)))
         × (now (report .exit) ≡ runLeaves (now (report .entry)) (now (schedule .entry))) ⌝ }
 {
     let first = validate(schedule);

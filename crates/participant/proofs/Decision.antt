@@ -5,7 +5,7 @@ use Prim.Native.Nat.{ℕ, _<_}
 use native.Mathlib.Omega.{arith}
 use lib.Dec.{lit≤}
 use Rattle.participant.specs.Types.{Decision, Participant, Waiting, VotingYes, Closing, Uncertain, Terminating, RecordingCommit, RecordingAbort, DoneCommit, DoneAbort, Down}
-use Rattle.participant.specs.Participant.{participantOf, recording, onDecision}
+use Rattle.participant.specs.Participant.{ofNumbers, recording, onDecision}
 use Rattle.participant.specs.Decision.{TakesDecision, recordingNumber, DecisionLeads, DecisionAsWritten}
 use Rattle.participant.proofs.Numbers.{by-numbers}
 
@@ -44,6 +44,6 @@ takes-decision d p t = by-numbers (onDecision d p) (recordingNumber d) 0 (leads 
     leads : DecisionLeads d p (onDecision d p)
     leads = decision-as-written d p
 
-    recorded : (d : Decision) → participantOf (recordingNumber d) 0 ≡ recording d
+    recorded : (d : Decision) → ofNumbers (recordingNumber d) 0 ≡ recording d
     recorded Decision.Commit = refl
     recorded Decision.Abort = refl

@@ -10,7 +10,7 @@ use Rattle.number.proofs.Laws.{and-left, inverse2}
 use Rattle.participant.specs.Types.{Participant, Waiting, VotingYes, Closing, Uncertain, Terminating, RecordingCommit, RecordingAbort, DoneCommit, DoneAbort, Down}
 use Rattle.participant.specs.Participant
 
-participant-decoded : (p : Participant) → Participant.participantOf (Participant.stateNumber p) (Participant.heardOf p) ≡ p
+participant-decoded : (p : Participant) → Participant.ofNumbers (Participant.stateNumber p) (Participant.heardOf p) ≡ p
 participant-decoded Waiting = refl
 participant-decoded VotingYes = refl
 participant-decoded Closing = refl
@@ -22,12 +22,12 @@ participant-decoded DoneCommit = refl
 participant-decoded DoneAbort = refl
 participant-decoded Down = refl
 
-pub participant-numbers : Inverse2 Participant.stateNumber Participant.heardOf Participant.participantOf
-participant-numbers = inverse2 Participant.stateNumber Participant.heardOf Participant.participantOf participant-decoded
+pub participant-numbers : Inverse2 Participant.stateNumber Participant.heardOf Participant.ofNumbers
+participant-numbers = inverse2 Participant.stateNumber Participant.heardOf Participant.ofNumbers participant-decoded
 
 -- a participant is the one that its numbers find
-pub by-numbers : (p : Participant) (k h : ℕ) → Participant.stateNumber p ≡ k → Participant.heardOf p ≡ h → p ≡ Participant.participantOf k h
-by-numbers p k h s m = sym (participant-decoded p) ∙ ap₂ Participant.participantOf s m
+pub by-numbers : (p : Participant) (k h : ℕ) → Participant.stateNumber p ≡ k → Participant.heardOf p ≡ h → p ≡ Participant.ofNumbers k h
+by-numbers p k h s m = sym (participant-decoded p) ∙ ap₂ Participant.ofNumbers s m
 
 pub state-most : (p : Participant) → Participant.stateNumber p ≤ 9
 state-most Waiting = lit≤ tt

@@ -1,3 +1,4 @@
 pub mod Types
 pub mod Participant
 pub mod Decision
+pub mod Cases

@@ -35,13 +35,13 @@ heardOf DoneAbort = 0
 heardOf Down = 0
 
 -- back from the numbers of state and heard mask
-abbrev pub participantOf : ℕ → ℕ → Participant
-participantOf s h =
+abbrev pub ofNumbers : ℕ → ℕ → Participant
+ofNumbers s h =
     numbered stateNumber Waiting
     (VotingYes ∷ Closing ∷ Uncertain ∷ Terminating h ∷ RecordingCommit ∷ RecordingAbort ∷ DoneCommit ∷ DoneAbort ∷ Down ∷ []) s
 
 abbrev pub isParticipant : ℕ → ℕ → Bool
-isParticipant s h = areNumbers stateNumber heardOf participantOf s h
+isParticipant s h = areNumbers stateNumber heardOf ofNumbers s h
 
 -- a heard mask that goes beyond n, has the own bit or is full is out of range
 abbrev pub heardInRange : ℕ → ℕ → ℕ → Bool
@@ -60,7 +60,7 @@ inRange n own DoneAbort = true
 inRange n own Down = true
 
 abbrev pub numbersInRange : ℕ → ℕ → ℕ → ℕ → Bool
-numbersInRange n own s h = isParticipant s h && inRange n own (participantOf s h)
+numbersInRange n own s h = isParticipant s h && inRange n own (ofNumbers s h)
 
 -- to a state, with nothing sent, or with a message sent
 abbrev pub to : Participant → Transition

@@ -6,7 +6,7 @@ use store::Call;
 use store::LogRecord;
 ghost use mathlib.Core.Path.{_≡_};
 ghost use Prim.Native.Nat.{_≤_, _<_};
-ghost use Rattle.participant.specs.Participant.{stateNumber, heardOf, participantOf, isParticipant, heardInRange, inRange, numbersInRange, to, onRequest, recording, onDecision, ownCall, otherCall, pending, terminating, onVote, onClose, onHeard, onCommitRecorded, onAbortRecorded, onAnswer, onTimeout, onCrash, onRestart};
+ghost use Rattle.participant.specs.Participant.{stateNumber, heardOf, ofNumbers, isParticipant, heardInRange, inRange, numbersInRange, to, onRequest, recording, onDecision, ownCall, otherCall, pending, terminating, onVote, onClose, onHeard, onCommitRecorded, onAbortRecorded, onAnswer, onTimeout, onCrash, onRestart};
 
 // A participant in its state. Terminating, it has the mask of the participants heard.
 pub enum Participant {
@@ -90,7 +90,7 @@ impl Participant {
 
     // The participant in a state with a heard mask, by their numbers.
     pub fn of(state: u32, heard: u32) -> Participant
-        ensures { λ p. ⌜ p ≡ participantOf state heard ⌝ }
+        ensures { λ p. ⌜ p ≡ ofNumbers state heard ⌝ }
     {
         match state {
             1 => Participant::VotingYes,

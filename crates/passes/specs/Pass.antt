@@ -13,7 +13,7 @@ use Rattle.rules.specs.State.{fresh}
 use Rattle.rules.specs.Report.{stepByte}
 use Rattle.rules.specs.Run.{reports, after, countLimit}
 use Rattle.state.specs.Fields.{fields, nIn, countIn, releaseIn}
-use Rattle.passes.specs.Types.{Step, Header, Read, Store, Release, Validated}
+use Rattle.passes.specs.Types.{Step, Header, Store, Release, Validated}
 
 -- the first pass, beside the steps counted before
 abbrev pub validatedAfter : ℕ → Reading → Validated
@@ -26,11 +26,6 @@ validated x = validatedAfter 0 x
 -- the reading of what stands from a place on, after its header
 abbrev pub readingFrom : List ℕ → Header → ℕ → Reading
 readingFrom schedule h place = stepsFrom h place (drop place schedule) 0
-
--- the reader's refusal of the part from a place on. It counts in that part, whose first byte is the record's
-abbrev pub refusedAt : ℕ → Read → Validated
-refusedAt place (Read.Record r l) = Validated.Refused 0 place
-refusedAt place (Read.Refused k p) = Validated.Refused k place
 
 -- the second pass: the steps that were read, the release that their header begins, and one byte a step
 

@@ -22,7 +22,7 @@ ghost use Rattle.schedule.specs.Record.{headerRecord, recordLength, longest};
 ghost use Rattle.state.specs.Fields.{fields, releaseIn};
 ghost use Rattle.schedule.specs.Schedule.{readSchedule};
 ghost use Rattle.passes.specs.declared.Validated.{Validated};
-ghost use Rattle.passes.specs.Pass.{validated, readingFrom, refusedAt, stepsOf, freshOf, Ready, Leaves};
+ghost use Rattle.passes.specs.Pass.{validated, readingFrom, stepsOf, freshOf, Ready, Leaves};
 
 // A schedule's header and how many steps it has; or a refusal's number and place.
 pub enum Validated {
@@ -30,17 +30,7 @@ pub enum Validated {
     Refused(u32, usize),
 }
 
-// The reader's refusal of the part of the schedule from a place on: the place is the record's first byte.
-fn refused_at(place: usize, found: Read) -> Validated
-    ensures { λ x. ⌜ x ≡ refusedAt place found ⌝ }
-{
-    match found {
-        Read::Record(_, _) => Validated::Refused(0, place),
-        Read::Refused(k, _) => Validated::Refused(k, place),
-    }
-}
-
-// Counts the steps from a place on, or leaves with the first refusal.
+// Counts the steps from a place on, or leaves with the first refusal, whose place is the record's first byte.
 fn count_steps(schedule: &[u8], start: usize, header: Header) -> Validated
     requires { ⌜ (start ≤ length (now schedule)) × (length (now schedule) ≤ longest) ⌝ }
     ensures { λ x. ⌜ x ≡ validated (readingFrom (now (schedule .entry)) header start) ⌝ }
@@ -49,10 +39,10 @@ fn count_steps(schedule: &[u8], start: usize, header: Header) -> Validated
     let mut steps: usize = 0;
     while at < schedule.len() {
         let found = read_step(&schedule[at..], header);
-        let Read::Record(_, size) = found else {
-            return refused_at(at, found);
+        let Read::Record(r, _) = found else {
+            return Validated::Refused(found.number(), at);
         };
-        at = at + size;
+        at = at + r.length();
         steps = steps + 1;
     }
     Validated::Steps(header, steps)
@@ -67,7 +57,7 @@ pub fn validate(schedule: &[u8]) -> Validated
     }
     let found = read_header(schedule);
     let Read::Record(r, start) = found else {
-        return refused_at(0, found);
+        return Validated::Refused(found.number(), 0);
     };
     count_steps(schedule, start, r.header())
 }

@@ -4,10 +4,10 @@
 use call::Stepped;
 use call::calls;
 use effect::coordinator_goes;
-use effect::drop;
 use effect::in_flight;
 use effect::participant_goes;
 use effect::receive;
+use effect::take_out;
 use kind::Step;
 use message::Message;
 use rules::Outcome;
@@ -24,7 +24,7 @@ ghost use Rattle.kind.specs.declared.Step.{Step};
 ghost use Rattle.rules.specs.Step.{step};
 ghost use Rattle.effect.specs.Leads.{Leads, LeadsUnder};
 ghost use Rattle.call.specs.Steps.{Steps, CanCount};
-ghost use Rattle.release.specs.Call.{makesCall};
+ghost use Rattle.rules.specs.OneParty.{makesCall};
 
 fn start(fields: &mut [u32; FIELDS], n: u32) -> Outcome
     requires { ⌜ n ≤ places ⌝ }
@@ -39,7 +39,7 @@ fn deliver(fields: &mut [u32; FIELDS], n: u32, m: Message, i: u32) -> Outcome
     ensures { λ o. ⌜ LeadsUnder n (λ r. step r (Step.Deliver m (suc i))) (now (fields .entry)) o (now (fields .exit)) ⌝ }
 {
     if in_flight(fields, m, i) {
-        drop(fields, m, i);
+        take_out(fields, m, i);
         receive(fields, n, m, i)
     } else {
         Outcome::Idle
@@ -62,7 +62,7 @@ fn lose(fields: &mut [u32; FIELDS], m: Message, i: u32) -> Outcome
     ensures { λ o. ⌜ Leads (λ r. step r (Step.Lose m (suc i))) (now (fields .entry)) o (now (fields .exit)) ⌝ }
 {
     if in_flight(fields, m, i) {
-        drop(fields, m, i);
+        take_out(fields, m, i);
         Outcome::Moved
     } else {
         Outcome::Idle

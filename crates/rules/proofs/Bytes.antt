@@ -13,7 +13,7 @@ use Rattle.participant.specs.Participant
 use Rattle.coordinator.specs.Coordinator
 use Rattle.rules.specs.State.{participantOf, logOf}
 use Rattle.rules.specs.Report.{outcomeNumber, outcomeOf, known, coordinatorKnown, learnt, closes, reportByte, outcomeIn, closedIn}
-use Rattle.rules.specs.Step.{called, drop, participantTo, coordinatorTo, step}
+use Rattle.rules.specs.Step.{called, takeOut, participantTo, coordinatorTo, step}
 use Rattle.rules.specs.Closed.{ClosedBytesHold, ByteSays}
 use Rattle.rules.specs.Types.{LogRecord, None, Yes, Abort, Commit, LogPair, Call, Logged, Performed, Participant, RecordingAbort, Transition, NotDue, To, Sent, Coordinator, CoordinatorTransition, Step, Release, Outcome, Report}
 use Rattle.rules.proofs.Cases.{answer-cases, coordinator-answer-cases, enters-cases}
@@ -145,7 +145,7 @@ coordinator-aborts r j l c x a e =
 caused-by : (r : Release) {s : Step} {t : Report} → Cause r s t → t .closed ≡ true → ClosedBy s (t .outcome)
 caused-by r idles e = unclosed refl e
 caused-by r (starts {c} {x} q) e = unclosed (coordinator-closed c x r) e
-caused-by r (delivers {m} {i} b) e = unclosed (receive-closed m i (drop m i r)) e
+caused-by r (delivers {m} {i} b) e = unclosed (receive-closed m i (takeOut m i r)) e
 caused-by r (copies {m} {i} b) e = unclosed (receive-closed m i r) e
 caused-by r loses e = unclosed refl e
 caused-by r (answered {i} {j} {l} {p} {x} a) e = by-same by-heard (to-outcome i p x (called (suc i) j (l .log) r) ∙ heard-aborts r i j l p x a e)

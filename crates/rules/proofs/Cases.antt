@@ -54,16 +54,17 @@ timeout-cases P n i a b c d DoneCommit = d DoneCommit
 timeout-cases P n i a b c d DoneAbort = d DoneAbort
 timeout-cases P n i a b c d Down = d Down
 
-pub crash-cases : (P : Transition → Type 0) → P (Participant.to Down) → P NotDue → (p : Participant) → P (Participant.onCrash p)
-crash-cases P a b Waiting = a
-crash-cases P a b VotingYes = a
-crash-cases P a b Closing = a
-crash-cases P a b Uncertain = a
-crash-cases P a b (Terminating h) = a
-crash-cases P a b RecordingCommit = a
-crash-cases P a b RecordingAbort = a
-crash-cases P a b DoneCommit = a
-crash-cases P a b DoneAbort = a
+pub crash-cases : (P : Participant → Transition → Type 0) → ((p : Participant) → P p (Participant.to Down)) → P Down NotDue
+    → (p : Participant) → P p (Participant.onCrash p)
+crash-cases P a b Waiting = a Waiting
+crash-cases P a b VotingYes = a VotingYes
+crash-cases P a b Closing = a Closing
+crash-cases P a b Uncertain = a Uncertain
+crash-cases P a b (Terminating h) = a (Terminating h)
+crash-cases P a b RecordingCommit = a RecordingCommit
+crash-cases P a b RecordingAbort = a RecordingAbort
+crash-cases P a b DoneCommit = a DoneCommit
+crash-cases P a b DoneAbort = a DoneAbort
 crash-cases P a b Down = b
 
 pub restart-cases : (P : Participant → Transition → Type 0) → P Down (Participant.to Closing) → ((p : Participant) → P p NotDue)
@@ -176,15 +177,15 @@ coordinator-answer-cases P n j r a b Coordinator.Abort = a Coordinator.Abort
 coordinator-answer-cases P n j r a b Coordinator.Down = a Coordinator.Down
 coordinator-answer-cases P n j r a b Coordinator.Retired = a Coordinator.Retired
 
-pub coordinator-crash-cases : (P : CoordinatorTransition → Type 0) → P (Coordinator.to Coordinator.Down) → P CoordinatorTransition.NotDue
-    → (c : Coordinator) → P (Coordinator.onCrash c)
-coordinator-crash-cases P a b Coordinator.Idle = a
-coordinator-crash-cases P a b (Coordinator.Waiting h) = a
-coordinator-crash-cases P a b (Coordinator.Terminating h) = a
-coordinator-crash-cases P a b Coordinator.Commit = a
-coordinator-crash-cases P a b Coordinator.Abort = a
+pub coordinator-crash-cases : (P : Coordinator → CoordinatorTransition → Type 0) → ((c : Coordinator) → P c (Coordinator.to Coordinator.Down))
+    → P Coordinator.Down CoordinatorTransition.NotDue → (c : Coordinator) → P c (Coordinator.onCrash c)
+coordinator-crash-cases P a b Coordinator.Idle = a Coordinator.Idle
+coordinator-crash-cases P a b (Coordinator.Waiting h) = a (Coordinator.Waiting h)
+coordinator-crash-cases P a b (Coordinator.Terminating h) = a (Coordinator.Terminating h)
+coordinator-crash-cases P a b Coordinator.Commit = a Coordinator.Commit
+coordinator-crash-cases P a b Coordinator.Abort = a Coordinator.Abort
 coordinator-crash-cases P a b Coordinator.Down = b
-coordinator-crash-cases P a b Coordinator.Retired = a
+coordinator-crash-cases P a b Coordinator.Retired = a Coordinator.Retired
 
 pub coordinator-restart-cases : (P : CoordinatorTransition → Type 0) → P (Coordinator.to Coordinator.Retired) → P CoordinatorTransition.NotDue
     → (c : Coordinator) → P (Coordinator.onRestart c)

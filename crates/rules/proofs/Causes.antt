@@ -7,7 +7,7 @@ use Rattle.participant.specs.Participant
 use Rattle.coordinator.specs.Coordinator
 use Rattle.rules.specs.State.{participantOf, logOf, inFlight}
 use Rattle.rules.specs.Report.{closes, withClosed}
-use Rattle.rules.specs.Step.{called, drop, idle, moved, participantTo, participantGoes, coordinatorTo, coordinatorGoes, receive, participantAnswered, participantPerformed, participantCalls, coordinatorAnswered, coordinatorPerformed, coordinatorCalls, step}
+use Rattle.rules.specs.Step.{called, takeOut, idle, moved, participantTo, participantGoes, coordinatorTo, coordinatorGoes, receive, participantAnswered, participantPerformed, participantCalls, coordinatorAnswered, coordinatorPerformed, coordinatorCalls, step}
 use Rattle.rules.specs.Types.{Logged, Performed, Participant, Sent, Transition, NotDue, To, Coordinator, CoordinatorTransition, Message, Step, Start, Deliver, Copy, Lose, Timeout, Crash, Restart, Release, Report}
 
 -- a due call of participant i on log j, that leaves x and leads to state p with s sent
@@ -23,9 +23,9 @@ pub record CoordinatorCall (r : Release) (j : ℕ) (x : Logged) (c : Coordinator
 pub data Cause (r : Release) : Step → Report → Type 0 where
   idles : {s : Step} → Cause r s (idle r)
   starts : {c : Coordinator} {x : Sent} → Coordinator.onStart (r .coordinator) ≡ CoordinatorTransition.To c x → Cause r Start (coordinatorTo c x r)
-  delivers : {m : Message} {i : ℕ} → inFlight r m i ≡ true → Cause r (Deliver m (suc i)) (receive m i (drop m i r))
+  delivers : {m : Message} {i : ℕ} → inFlight r m i ≡ true → Cause r (Deliver m (suc i)) (receive m i (takeOut m i r))
   copies : {m : Message} {i : ℕ} → inFlight r m i ≡ true → Cause r (Copy m (suc i)) (receive m i r)
-  loses : {m : Message} {i : ℕ} → Cause r (Lose m (suc i)) (moved (drop m i r))
+  loses : {m : Message} {i : ℕ} → Cause r (Lose m (suc i)) (moved (takeOut m i r))
   answered : {i j : ℕ} {l : Logged} {p : Participant} {x : Sent} → ParticipantCall r i j l p x
       → Cause r (Step.Call (suc i) (suc j)) (withClosed (closes (suc i) j l) (participantTo i p x (called (suc i) j (l .log) r)))
   lost : {i j : ℕ} {l : Logged} {p : Participant} {x : Sent} → ParticipantCall r i j l p x
@@ -88,11 +88,11 @@ pub cause : (r : Release) (s : Step) → Cause r s (step r s)
 unfolding participantCalls coordinatorCalls
 cause r Start = coordinator-cause r Start (Coordinator.onStart (r .coordinator)) (Coordinator.onStart (r .coordinator)) refl (λ c x q. starts q)
 cause r (Deliver m zero) = idles
-cause r (Deliver m (suc i)) = flight-cause r (Deliver m (suc i)) (inFlight r m i) (inFlight r m i) (receive m i (drop m i r)) refl (λ b. delivers b)
+cause r (Deliver m (suc i)) = flight-cause r (Deliver m (suc i)) (inFlight r m i) (inFlight r m i) (receive m i (takeOut m i r)) refl (λ b. delivers b)
 cause r (Copy m zero) = idles
 cause r (Copy m (suc i)) = flight-cause r (Copy m (suc i)) (inFlight r m i) (inFlight r m i) (receive m i r) refl (λ b. copies b)
 cause r (Lose m zero) = idles
-cause r (Lose m (suc i)) = flight-cause r (Lose m (suc i)) (inFlight r m i) (inFlight r m i) (moved (drop m i r)) refl (λ b. loses)
+cause r (Lose m (suc i)) = flight-cause r (Lose m (suc i)) (inFlight r m i) (inFlight r m i) (moved (takeOut m i r)) refl (λ b. loses)
 cause r (Step.Call zero zero) = idles
 cause r (Step.Call zero (suc j)) = coordinator-performed-cause r j (perform (Coordinator.pending (r .coordinator) j) (logOf r j)) refl .0
 cause r (Step.Call (suc i) zero) = idles

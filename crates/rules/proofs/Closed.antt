@@ -16,12 +16,12 @@ use Rattle.participant.specs.Participant
 use Rattle.coordinator.specs.Coordinator
 use Rattle.rules.specs.State.{participantOf, logOf, firstOf}
 use Rattle.rules.specs.Report.{closes}
-use Rattle.rules.specs.Step.{called, drop, participantTo, coordinatorTo, coordinatorGoes, receive, step, isDue}
+use Rattle.rules.specs.Step.{called, takeOut, participantTo, coordinatorTo, coordinatorGoes, receive, step, isDue}
 use Rattle.rules.specs.Closed.{ClosesAnother, ClosedAsWritten}
 use Rattle.rules.specs.Types.{LogRecord, None, Yes, Abort, Commit, LogPair, Call, Logged, Performed, Participant, Sent, Coordinator, CoordinatorTransition, Message, Step, Start, Deliver, Copy, Lose, Timeout, Crash, Restart, Release, Report}
 use Rattle.rules.proofs.Bounds.{Bounds, bounds}
 use Rattle.rules.proofs.Causes.{Cause, idles, starts, delivers, copies, loses, answered, lost, coordinator-answered, coordinator-lost, times-out, crashes, restarts, coordinator-times-out, coordinator-crashes, coordinator-restarts, cause}
-use Rattle.rules.proofs.Idle.{idle-step}
+use Rattle.rules.proofs.Actions.{not-due-stays}
 
 -- The word as tests, as the rules have it
 
@@ -122,7 +122,7 @@ idle-closes r (Restart p) = refl
 caused-closes : (r : Release) {s : Step} {t : Report} → Cause r s t → Bounds (r .n) s → r .n ≤ length (r .store .logs) → t .closed ≡ closesAnother s r (t .next)
 caused-closes r (idles {s}) h room = idle-closes r s
 caused-closes r (starts {c} {x} q) h room = coordinator-closed c x r
-caused-closes r (delivers {m} {i} b) h room = receive-closed m i (drop m i r)
+caused-closes r (delivers {m} {i} b) h room = receive-closed m i (takeOut m i r)
 caused-closes r (copies {m} {i} b) h room = receive-closed m i r
 caused-closes r loses h room = refl
 caused-closes r (answered {i} {j} {l} {p} {x} a) h room =
@@ -198,7 +198,7 @@ module _ (r t : Release) where
 -- a step that closes a log is due
 closed-due : (r : Release) (s : Step) (b : Bool) → isDue r s ≡ b → step r s .closed ≡ true → b ≡ true
 closed-due r s true d e = refl
-closed-due r s false d e = absurd (false≢true (sym (ap (λ (t : Report). t .closed) (idle-step r s d)) ∙ e))
+closed-due r s false d e = absurd (false≢true (sym (ap (λ (t : Report). t .closed) (not-due-stays r s d)) ∙ e))
 
 pub closed-as-written : ClosedAsWritten
 closed-as-written r s room h =

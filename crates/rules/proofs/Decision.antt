@@ -1,31 +1,32 @@
 -- A decision delivered does what is written, and leaves one answered call. Assumes nothing.
 use mathlib.Core.Path.{_≡_, refl, sym, ap, _∙_, subst}
 use mathlib.Core.Logic.{_⊎_, inl, inr}
-use mathlib.Core.Bool.{true, false, false≢true}
+use mathlib.Core.Bool.{false}
 use mathlib.Core.List.{List, [], _∷_}
 use Prim.Native.Nat.{ℕ, zero, suc, _≤_, _<_}
 use native.Mathlib.Omega.{arith}
 use native.Mathlib.Nat.{le-trans}
 use lib.ListN.{length, set}
-use lib.Seq.{getD-set-same}
 use Rattle.kind.specs.Step.{AllInRange}
 use Rattle.participant.specs.Participant
 use Rattle.participant.specs.Decision.{TakesDecision, DecisionLeads}
 use Rattle.participant.proofs.Numbers.{by-numbers}
 use Rattle.participant.proofs.Decision.{decision-as-written, takes-decision}
-use Rattle.rules.specs.State.{participantAt, participantOf, waiting, fresh}
-use Rattle.rules.specs.Report.{outcomeNumber, moves, known, learnt, stepByte}
-use Rattle.rules.specs.Step.{drop, withParticipant, participantTo, receive, step}
+use Rattle.rules.specs.State.{participantAt, participantOf, firstOf, fresh}
+use Rattle.rules.specs.Report.{outcomeNumber, known, learnt, stepByte}
+use Rattle.rules.specs.Step.{takeOut, withParticipant, participantTo, receive, step}
 use Rattle.rules.specs.Run.{after}
-use Rattle.rules.specs.Decision.{decisionMessage, decisionByte, DeliversDecision, DeliveredAsWritten, OneCallLeft, HeldAfterOneCall}
+use Rattle.rules.specs.Demand.{Holds}
+use Rattle.rules.specs.Decision.{decisionMessage, decisionByte, DeliversDecision, DeliveredAsWritten, HoldsDecision, OneCallLeft, HeldAfterOneCall}
 use Rattle.rules.specs.Types.{Participant, Uncertain, Terminating, Sent, Decision, Site, Release, Step, Deliver, Copy, Outcome, Report}
-use Rattle.rules.proofs.Invariant.{Inv}
+use Rattle.rules.proofs.FirstRecords.{Stated, still, keeps-trans, excluded}
+use Rattle.rules.proofs.Invariant.{messageClaim, Knows, Inv}
 use Rattle.rules.proofs.Updates.{Good}
 use Rattle.rules.proofs.Safety.{step-good}
 use Rattle.rules.proofs.Agreement.{fresh-inv, range-left, range-right, Later, later}
 use Rattle.rules.proofs.Rank.{rank, recording-rank}
-use Rattle.rules.proofs.Due.{known-moves}
-use Rattle.rules.proofs.Progress.{entered-own}
+use Rattle.rules.proofs.Due.{known-moves, same-learnt}
+use Rattle.rules.proofs.Actions.{placed, participant-goes-to}
 use Rattle.rules.proofs.Readiness.{rank-up}
 use Rattle.rules.proofs.Demand.{held-after}
 
@@ -48,7 +49,7 @@ received r s d i b = go (b .delivery)
   where
     go : (s ≡ Deliver (decisionMessage d) (suc i)) ⊎ (s ≡ Copy (decisionMessage d) (suc i)) → Received r s d i
     go (inl e) =
-        record { from = drop (decisionMessage d) i r; sites = refl; report = rw (e, b .in-flight) (receives d i (drop (decisionMessage d) i r)) }
+        record { from = takeOut (decisionMessage d) i r; sites = refl; report = rw (e, b .in-flight) (receives d i (takeOut (decisionMessage d) i r)) }
     go (inr e) = record { from = r; sites = refl; report = rw (e, b .in-flight) (receives d i r) }
 
 -- where it leads, and what is reported
@@ -56,7 +57,7 @@ received r s d i b = go (b .delivery)
 taken-by : (r : Release) (s : Step) (d : Decision) (i : ℕ) → i < length (r .sites) → DeliversDecision r s d i → participantOf (step r s .next) i ≡ decided r d i
 taken-by r s d i room b =
     let x : Received r s d i = received r s d i b in
-    ap (λ (t : Report). participantOf (t .next) i) (x .report) ∙ entered-own (x .from) i (decided r d i) Sent.Nothing (rw (x .sites) room)
+    ap (λ (t : Report). participantOf (t .next) i) (x .report) ∙ participant-goes-to i (decided r d i) Sent.Nothing (x .from) .state (rw (x .sites) room)
 
 to-byte : (i : ℕ) (p : Participant) (s : Sent) (r : Release) → stepByte (participantTo i p s r) ≡ outcomeNumber (learnt (known (participantOf r i)) (known p))
 unfolding participantTo
@@ -80,12 +81,6 @@ recording-byte Decision.Abort = refl
 
 taken-byte : (d : Decision) (p : Participant) → TakesDecision p → outcomeNumber (learnt (known p) (known (Participant.onDecision d p))) ≡ decisionByte d
 taken-byte d p t = rw (unknown p t, takes-decision d p t) (recording-byte d)
-
-same-learnt : (o : Outcome) → moves o ≡ true → learnt o o ≡ Outcome.Moved
-same-learnt Outcome.Idle h = absurd (false≢true h)
-same-learnt Outcome.Moved h = refl
-same-learnt Outcome.Commit h = refl
-same-learnt Outcome.Abort h = refl
 
 stays-byte : (d : Decision) (p : Participant) → (TakesDecision p → ⊥) → outcomeNumber (learnt (known p) (known (Participant.onDecision d p))) ≡ 1
 stays-byte d p n = rw (decision-as-written d p .no-effect n) (ap outcomeNumber (same-learnt (known p) (known-moves p)))
@@ -113,7 +108,7 @@ module _ (r : Release) (d : Decision) (i : ℕ) where
       → participantTo i (decided r d i) Sent.Nothing r ≡ participantTo i (decided uncertain d i) Sent.Nothing uncertain
   unfolding participantTo
   like-uncertain h room e =
-      let u : participantOf uncertain i ≡ Uncertain = ap (λ (x : Site). x .participant) (getD-set-same (r .sites) i (record { participant = Uncertain }) waiting room) in
+      let u : participantOf uncertain i ≡ Uncertain = placed i Uncertain r room in
       rw (e, u) (ap reportWith (sym (set-twice (r .sites) i (record { participant = Uncertain }) (record { participant = Participant.recording d }))))
 
 like : (r : Release) (s : Step) (d : Decision) (i : ℕ) → i < length (r .sites) → DeliversDecision r s d i → (h : ℕ) → participantOf r i ≡ Terminating h
@@ -125,7 +120,7 @@ like r s d i room b h e = go (b .delivery)
     receives-like t l k = receives d i t ∙ like-uncertain t d i h l k ∙ sym (receives d i (withParticipant i Uncertain t))
 
     go : (s ≡ Deliver (decisionMessage d) (suc i)) ⊎ (s ≡ Copy (decisionMessage d) (suc i)) → step r s ≡ step (withParticipant i Uncertain r) s
-    go (inl q) = rw (q, b .in-flight) (receives-like (drop (decisionMessage d) i r) room e)
+    go (inl q) = rw (q, b .in-flight) (receives-like (takeOut (decisionMessage d) i r) room e)
     go (inr q) = rw (q, b .in-flight) (receives-like r room e)
 
 pub delivered-as-written : DeliveredAsWritten
@@ -140,16 +135,35 @@ delivered-as-written r s d i room b =
 -- one answered call is left
 
 one-call-left : (r : Release) → Inv r → (s : Step) (ys : List Step) → AllInRange (r .n) (s ∷ ys) → (d : Decision) (i : ℕ) → i < r .n → DeliversDecision r s d i
-    → TakesDecision (participantOf r i) → OneCallLeft r s ys i
-one-call-left r v s ys h d i lt b t calm more =
-    held-after (step r s .next) (g .inv) i (rw (g .same-n) lt) ys (rw (g .same-n) (h .1))
-    (rank-up (step r s .next .n) (participantOf (step r s .next) i) (omega (arith, one))) calm (le-trans one more)
+    → TakesDecision (participantOf r i) → OneCallLeft r s d ys i
+one-call-left r v s ys h d i lt b t calm more = same d told held
   where
     g : Good r (step r s)
     g = step-good r s (h .0) v
 
+    reached : Later (step r s .next) (after (step r s .next) ys)
+    reached = later (step r s .next) ys (rw (g .same-n) (h .1)) (g .inv)
+
+    -- the message stands for what the logs say, and they still say it
+    told : Stated (r .n) (firstOf (after (step r s .next) ys)) (messageClaim i (decisionMessage d))
+    told = still (r .n) (keeps-trans (g .keeps) (reached .keeps)) (messageClaim i (decisionMessage d)) (v .tells (decisionMessage d) i lt (b .in-flight))
+
+    knows : Knows (r .n) (firstOf (after (step r s .next) ys)) i (participantOf (after (step r s .next) ys) i)
+    knows = rw (reached .same-n ∙ g .same-n) at (reached .inv .knows i (rw (reached .same-n ∙ g .same-n) lt))
+
+    same : (d : Decision) → Stated (r .n) (firstOf (after (step r s .next) ys)) (messageClaim i (decisionMessage d)) → Holds (after (step r s .next) ys) i → HoldsDecision d (after (step r s .next) ys) i
+    same Decision.Commit a (inl x) = x
+    same Decision.Commit a (inr x) = absurd (excluded a (rw (x .state) at knows))
+    same Decision.Abort a (inl x) = absurd (excluded (rw (x .state) at knows) a)
+    same Decision.Abort a (inr x) = x
+
     one : rank (step r s .next .n) (participantOf (step r s .next) i) ≤ 1
     one = rw (g .same-n, taken-by r s d i (le-trans lt (v .sites-room)) b, takes-decision d (participantOf r i) t) (recording-rank (r .n) i lt d)
+
+    held : Holds (after (step r s .next) ys) i
+    held =
+        held-after (step r s .next) (g .inv) i (rw (g .same-n) lt) ys (rw (g .same-n) (h .1))
+        (rank-up (step r s .next .n) (participantOf (step r s .next) i) (omega (arith, one))) calm (le-trans one more)
 
 pub held-after-one-call : HeldAfterOneCall
 held-after-one-call places n votes fits xs s ys h d i lt b t =

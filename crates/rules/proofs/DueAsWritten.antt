@@ -3,35 +3,17 @@ use mathlib.Core.Path.{_≡_, refl, _∙_}
 use mathlib.Core.Bool.{Bool, true, false, not, cond}
 use mathlib.Core.List.{[], _∷_}
 use Prim.Native.Nat.{ℕ, zero, suc}
-use Rattle.mask.specs.Mask.{has, insert}
+use Rattle.mask.specs.Mask.{insert}
 use Rattle.store.specs.Log.{perform}
 use Rattle.participant.specs.Participant
 use Rattle.coordinator.specs.Coordinator
-use Rattle.rules.proofs.Cases.{replyYes-cases, replyAbort-cases, enters-cases}
 use Rattle.rules.specs.State.{participantOf, logOf, inFlight}
 use Rattle.rules.specs.Report.{moves}
-use Rattle.rules.specs.Step.{called, drop, idle, moved, participantGoes, coordinatorGoes, receive, participantAnswered, participantPerformed, participantCalls, coordinatorAnswered, coordinatorPerformed, coordinatorCalls, calls}
+use Rattle.rules.specs.Step.{called, takeOut, idle, moved, receive, participantAnswered, participantPerformed, participantCalls, coordinatorAnswered, coordinatorPerformed, coordinatorCalls, calls}
 use Rattle.rules.specs.Due.{inStates, canGet, answerable, callDue, DueAsWritten}
-use Rattle.rules.specs.Types.{LogRecord, None, Yes, Abort, Commit, LogPair, Call, Logged, Performed, Message, Sent, Decision, Participant, Waiting, VotingYes, Closing, Uncertain, Terminating, RecordingCommit, RecordingAbort, DoneCommit, DoneAbort, Down, Transition, NotDue, To, Coordinator, CoordinatorTransition, Release, Step, Start, Deliver, Copy, Lose, Timeout, Crash, Restart, Report}
-use Rattle.rules.proofs.Due.{participant-due, coordinator-due}
-
--- whether a transition leads anywhere
-
-abbrev leads : Transition → Bool
-leads NotDue = false
-leads (To p s) = true
-
-abbrev coordinatorLeads : CoordinatorTransition → Bool
-coordinatorLeads CoordinatorTransition.NotDue = false
-coordinatorLeads (CoordinatorTransition.To c s) = true
-
-goes-moves : (i : ℕ) (t : Transition) (r : Release) → moves (participantGoes i t r .outcome) ≡ leads t
-goes-moves i NotDue r = refl
-goes-moves i (To p s) r = participant-due i p s r
-
-coordinator-goes-moves : (t : CoordinatorTransition) (r : Release) → moves (coordinatorGoes t r .outcome) ≡ coordinatorLeads t
-coordinator-goes-moves CoordinatorTransition.NotDue r = refl
-coordinator-goes-moves (CoordinatorTransition.To c s) r = coordinator-due c s r
+use Rattle.rules.specs.Types.{LogRecord, None, Yes, Abort, Commit, LogPair, Call, Logged, Performed, Participant, Waiting, VotingYes, Closing, Uncertain, Terminating, RecordingCommit, RecordingAbort, DoneCommit, DoneAbort, Down, Transition, NotDue, To, Coordinator, CoordinatorTransition, Release, Step, Start, Deliver, Copy, Lose, Timeout, Crash, Restart, Report}
+use Rattle.rules.proofs.Due.{participant-due, coordinator-due, leads, coordinatorLeads, goes-moves, coordinator-goes-moves, enters-leads}
+use Rattle.rules.proofs.Actions.{receive-moves}
 
 -- start, timeout, crash, restart
 
@@ -107,21 +89,7 @@ restart-leads DoneCommit = refl
 restart-leads DoneAbort = refl
 restart-leads Down = refl
 
--- messages: a delivery is always due
-
-enters-leads : (c : Coordinator) → coordinatorLeads (Coordinator.enters c) ≡ true
-enters-leads c = enters-cases (λ t. coordinatorLeads t ≡ true) c refl (λ q. refl) (λ q. refl)
-
-pub receive-moves : (m : Message) (i : ℕ) (r : Release) → moves (receive m i r .outcome) ≡ true
-receive-moves Message.Request i r = participant-due i (Participant.onRequest (has i (r .votes)) (participantOf r i)) Sent.Nothing r
-receive-moves Message.ReplyYes i r =
-    coordinator-goes-moves (Coordinator.onReplyYes (r .n) i (r .coordinator)) r
-    ∙ replyYes-cases (λ c t. coordinatorLeads t ≡ true) (r .n) i
-    (λ h. enters-leads (Coordinator.unlessFull (r .n) (insert i h) (Coordinator.Waiting (insert i h)))) (λ c. refl) (r .coordinator)
-receive-moves Message.ReplyAbort i r =
-    coordinator-goes-moves (Coordinator.onReplyAbort (r .coordinator)) r ∙ replyAbort-cases (λ c t. coordinatorLeads t ≡ true) (λ h. refl) (λ c. refl) (r .coordinator)
-receive-moves Message.Commit i r = participant-due i (Participant.onDecision Decision.Commit (participantOf r i)) Sent.Nothing r
-receive-moves Message.Abort i r = participant-due i (Participant.onDecision Decision.Abort (participantOf r i)) Sent.Nothing r
+-- messages
 
 flight-moves : (b : Bool) (t : Report) (r : Release) → moves (t .outcome) ≡ true → moves (cond b t (idle r) .outcome) ≡ b
 flight-moves true t r h = h
@@ -250,11 +218,11 @@ call-moves heard (suc i) (suc j) r =
 pub due-as-written : DueAsWritten
 due-as-written r Start = coordinator-goes-moves (Coordinator.onStart (r .coordinator)) r ∙ start-leads (r .coordinator)
 due-as-written r (Deliver m zero) = refl
-due-as-written r (Deliver m (suc i)) = flight-moves (inFlight r m i) (receive m i (drop m i r)) r (receive-moves m i (drop m i r))
+due-as-written r (Deliver m (suc i)) = flight-moves (inFlight r m i) (receive m i (takeOut m i r)) r (receive-moves m i (takeOut m i r))
 due-as-written r (Copy m zero) = refl
 due-as-written r (Copy m (suc i)) = flight-moves (inFlight r m i) (receive m i r) r (receive-moves m i r)
 due-as-written r (Lose m zero) = refl
-due-as-written r (Lose m (suc i)) = flight-moves (inFlight r m i) (moved (drop m i r)) r refl
+due-as-written r (Lose m (suc i)) = flight-moves (inFlight r m i) (moved (takeOut m i r)) r refl
 due-as-written r (Step.Call p q) = call-moves true p q r
 due-as-written r (Step.CallLost p q) = call-moves false p q r
 due-as-written r (Timeout zero) = coordinator-goes-moves (Coordinator.onTimeout (r .coordinator)) r ∙ coordinator-timeout-leads (r .coordinator)

@@ -2,6 +2,7 @@ pub mod Cases
 pub mod Ranges
 pub mod FirstRecords
 pub mod Bounds
+pub mod Messages
 pub mod Causes
 pub mod Invariant
 pub mod Updates
@@ -14,13 +15,17 @@ pub mod Due
 pub mod DueAsWritten
 pub mod Progress
 pub mod Readiness
+pub mod Written
 pub mod Unanimity
+pub mod Votes
+pub mod History
 pub mod Demand
 pub mod Reached
 pub mod Cut
 pub mod Counts
 pub mod Room
-pub mod Idle
+pub mod Actions
+pub mod OneParty
 pub mod Closed
 pub mod Bytes
 pub mod Decision

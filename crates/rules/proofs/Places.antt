@@ -12,7 +12,7 @@ use Rattle.mask.specs.Mask.{has}
 use Rattle.participant.specs.Participant
 use Rattle.coordinator.specs.Coordinator
 use Rattle.rules.specs.State.{waiting, participantOf, logOf, inFlight, fresh}
-use Rattle.rules.specs.Step.{idle, moved, send, drop, withParticipant, participantTo, participantGoes, coordinatorTo, coordinatorGoes, receive, called, participantAnswered, participantPerformed, participantCalls, coordinatorAnswered, coordinatorPerformed, coordinatorCalls, step}
+use Rattle.rules.specs.Step.{idle, moved, send, takeOut, withParticipant, participantTo, participantGoes, coordinatorTo, coordinatorGoes, receive, called, participantAnswered, participantPerformed, participantCalls, coordinatorAnswered, coordinatorPerformed, coordinatorCalls, step}
 use Rattle.rules.specs.Report.{known, learnt, closes, withClosed, stepByte}
 use Rattle.rules.specs.Run.{reports, after}
 use Rattle.rules.specs.Places.{widened, PlacesSame}
@@ -126,11 +126,11 @@ module _ (k : ℕ) where
   in-step : (r : Release) → HasRoom r → (s : Step) → Bounds (r .n) s → step (widened k r) s ≡ widenedReport k (step r s)
   in-step r g Start q = leads (Coordinator.onStart (r .coordinator)) r
   in-step r g (Deliver m zero) q = refl
-  in-step r g (Deliver m (suc i)) q = either (inFlight r m i) _ _ r (received m i (drop m i r) (omega (arith, g .sites, q .1)))
+  in-step r g (Deliver m (suc i)) q = either (inFlight r m i) _ _ r (received m i (takeOut m i r) (omega (arith, g .sites, q .1)))
   in-step r g (Copy m zero) q = refl
   in-step r g (Copy m (suc i)) q = either (inFlight r m i) _ _ r (received m i r (omega (arith, g .sites, q .1)))
   in-step r g (Lose m zero) q = refl
-  in-step r g (Lose m (suc i)) q = either (inFlight r m i) (moved (drop m i (widened k r))) (moved (drop m i r)) r refl
+  in-step r g (Lose m (suc i)) q = either (inFlight r m i) (moved (takeOut m i (widened k r))) (moved (takeOut m i r)) r refl
   in-step r g (Step.Call zero zero) q = refl
   in-step r g (Step.Call zero (suc j)) q = lead-calls j r (omega (arith, g .calls)) (omega (arith, g .logs, q .2)) true
   in-step r g (Step.Call (suc i) zero) q = refl

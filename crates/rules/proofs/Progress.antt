@@ -7,8 +7,6 @@ use native.Mathlib.Omega.{arith}
 use native.Mathlib.Nat.{le-trans, le-refl}
 use native.Mathlib.Decide.{ℕ-discrete}
 use lib.Dec.{eqb·zero-suc}
-use lib.ListN.{length}
-use lib.Seq.{getD-set-same}
 use borrow.Author.Tests.{ne-eqb}
 use Rattle.kind.specs.Step.{AllInRange}
 use Rattle.mask.specs.Mask.{has}
@@ -16,19 +14,20 @@ use Rattle.participant.specs.Participant
 use Rattle.coordinator.specs.Coordinator
 use Rattle.rules.specs.State.{participantOf, firstOf, waiting}
 use Rattle.rules.specs.Report.{moves}
-use Rattle.rules.specs.Step.{called, drop, reply, participantTo, coordinatorTo, coordinatorGoes, receive, step}
+use Rattle.rules.specs.Step.{called, takeOut, reply, participantTo, coordinatorTo, coordinatorGoes, receive, step}
 use Rattle.rules.specs.Run.{after}
 use Rattle.rules.specs.Demand.{isCallOf, answered, AllUndisturbed}
 use Rattle.rules.specs.Types.{Logged, Participant, Terminating, Site, Sent, Decision, To, Coordinator, CoordinatorTransition, Message, Step, Start, Deliver, Copy, Timeout, Crash, Restart, Outcome, Release, Report}
 use Rattle.rules.proofs.FirstRecords.{true-false}
 use Rattle.rules.proofs.Invariant.{Inv}
-use Rattle.rules.proofs.Updates.{set-all, Good, drop-inv}
+use Rattle.rules.proofs.Updates.{set-all, Good, take-out-inv}
 use Rattle.rules.proofs.Ranges.{Guard}
 use Rattle.rules.proofs.Bounds.{Bounds, bounds}
 use Rattle.rules.proofs.Causes.{ParticipantCall, Cause, idles, starts, delivers, copies, loses, answered as call-answered, lost, coordinator-answered, coordinator-lost, times-out, crashes, restarts, coordinator-times-out, coordinator-crashes, coordinator-restarts, cause}
 use Rattle.rules.proofs.Safety.{call-guard, step-good}
 use Rattle.rules.proofs.Rank.{rank, request-rank, decision-rank, timeout-rank, restart-rank, answer-rank, guarded-rank}
 use Rattle.rules.proofs.Due.{participant-due}
+use Rattle.rules.proofs.Actions.{participant-goes-to}
 
 -- the participants after one of them went to p
 
@@ -42,11 +41,6 @@ unfolding participantTo
 entered P r k i p s old new =
     rw (reply-sites s k r)
     (set-all (λ (j : ℕ) (x : Site). j ≡ i → P (x .participant)) (r .sites) k (record { participant = p }) waiting (λ j q. rw q old) new i refl)
-
-pub entered-own : (r : Release) (i : ℕ) (p : Participant) (s : Sent) → i < length (r .sites) → participantOf (participantTo i p s r .next) i ≡ p
-unfolding participantTo
-entered-own r i p s h =
-    rw (reply-sites s i r) (ap (λ (x : Site). x .participant) (getD-set-same (r .sites) i (record { participant = p }) waiting h))
 
 -- the coordinator moves no participant
 
@@ -124,7 +118,7 @@ call-loses r i k j l p x hi hk hj v a (yes e) = rw (← e) (go (rank (r .n) (par
     go zero q = absurd (omega (arith, guarded-rank (r .n) k hk (firstOf r) (participantOf r k) j hj g (v .knows k hk)))
     go (suc c) q =
         let lower : rank (r .n) p ≤ c = rw (a .answer) at (answer-rank (r .n) k hk (firstOf r) (participantOf r k) j c (l .answer) hj g (v .knows k hk) q) in
-        rw (entered-own (called (suc k) j (l .log) r) k p x (le-trans hk (v .sites-room)))
+        rw (participant-goes-to k p x (called (suc k) j (l .log) r) .state (le-trans hk (v .sites-room)))
         (omega (arith, counted-le (isCallOf k (Step.Call (suc k) (suc j)) && moves (participantTo k p x (called (suc k) j (l .log) r) .outcome))))
 
 -- the conditions, of a step with outcome o
@@ -140,7 +134,7 @@ caused-loses r i (idles {s}) h g v c = idle-loses (isCallOf i s)
     idle-loses false = omega arith
 caused-loses r i (starts {c = d} {x} q) h g v c = coordinator-free r r i Start d x refl refl
 caused-loses r i (delivers {m} {i = k} b) h g v c =
-    free r i (Deliver m (suc k)) (receive m k (drop m k r)) refl (receive-falls (drop m k r) i h (drop-inv r m k v) m k)
+    free r i (Deliver m (suc k)) (receive m k (takeOut m k r)) refl (receive-falls (takeOut m k r) i h (take-out-inv r m k v) m k)
 caused-loses r i (copies {m} {i = k} b) h g v c = free r i (Copy m (suc k)) (receive m k r) refl (receive-falls r i h v m k)
 caused-loses r i (loses {m} {i = k}) h g v c = omega arith
 caused-loses r i (call-answered {i = k} {j} {l} {p} {x} a) h g v c = call-loses r i k j l p x h (g .0) (g .2) v a (ℕ-discrete k i)

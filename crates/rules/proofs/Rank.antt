@@ -5,8 +5,8 @@ use Prim.Native.Nat.{ℕ, suc, _+_, _-_, _≤_, _<_}
 use native.Mathlib.Omega.{arith}
 use native.Mathlib.Nat.{le-refl}
 use lib.Dec.{eqb}
-use Rattle.mask.specs.Mask.{has, insert, full, size}
-use Rattle.mask.proofs.Laws.{size-le, size-insert, bit-of-has, not-member}
+use Rattle.mask.specs.Mask.{has, insert, full}
+use Rattle.mask.proofs.Laws.{size, size-le, size-insert, bit-of-has, not-member}
 use Rattle.participant.specs.Participant
 use Rattle.rules.proofs.Cases.{cond-cases, answer-cases, request-cases, decision-cases, timeout-cases, restart-cases}
 use Rattle.rules.specs.Types.{LogRecord, Decision, Participant, Waiting, VotingYes, Closing, Uncertain, Terminating, RecordingCommit, RecordingAbort, DoneCommit, DoneAbort, Down, Transition, NotDue, To}

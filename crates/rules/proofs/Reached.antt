@@ -16,7 +16,7 @@ use Rattle.coordinator.specs.Coordinator
 use Rattle.rules.proofs.Ranges.{ParticipantInRange, CoordinatorInRange, ToInRange, CoordinatorToInRange, participant-tested, coordinator-tested, request-range, decision-range, timeout-range, answer-range, none-heard, replyYes-range, replyAbort-range, coordinator-answer-range}
 use Rattle.rules.proofs.Cases.{crash-cases, restart-cases, start-cases, coordinator-timeout-cases, coordinator-crash-cases, coordinator-restart-cases}
 use Rattle.rules.specs.State.{participantOf, participantAt, logOf, logAt, firstOf, lastOf, maskAt, maskOf, waiting, fresh}
-use Rattle.rules.specs.Step.{called, send, sendAll, drop, withMask, withParticipant, participantTo, withCoordinator, coordinatorTo, coordinatorGoes, receive, step}
+use Rattle.rules.specs.Step.{called, send, sendAll, takeOut, withMask, withParticipant, participantTo, withCoordinator, coordinatorTo, coordinatorGoes, receive, step}
 use Rattle.rules.specs.Run.{after}
 use Rattle.rules.specs.Range.{ReleaseInRange, ReachedInRange, LogsKept, ReachedKept}
 use Rattle.rules.specs.Types.{LogRecord, None, Yes, Abort, Commit, LogPair, Participant, Waiting, Site, Sent, Decision, NotDue, To, Coordinator, CoordinatorTransition, Message, Step, Release, Report}
@@ -60,8 +60,8 @@ mask-ranged r m x b h =
 send-ranged : (r : Release) (m : Message) (i : ℕ) → i < r .n → Ranged r → Ranged (send m i r)
 send-ranged r m i h b = mask-ranged r m (insert i (maskOf r m)) b (insert-lt (r .n) i (maskOf r m) h (b .masks m))
 
-drop-ranged : (r : Release) (m : Message) (i : ℕ) → Ranged r → Ranged (drop m i r)
-drop-ranged r m i b = mask-ranged r m (remove i (maskOf r m)) b (omega (arith, remove-le i (maskOf r m), b .masks m))
+take-out-ranged : (r : Release) (m : Message) (i : ℕ) → Ranged r → Ranged (takeOut m i r)
+take-out-ranged r m i b = mask-ranged r m (remove i (maskOf r m)) b (omega (arith, remove-le i (maskOf r m), b .masks m))
 
 participant-ranged : (r : Release) (i : ℕ) (p : Participant) → i < r .n → Ranged r → ParticipantInRange (r .n) i p → Ranged (withParticipant i p r)
 participant-ranged r i p l b h =
@@ -135,9 +135,9 @@ caused-ranged : (r : Release) {s : Step} {t : Report} → Cause r s t → Bounds
 caused-ranged r idles h v b = b
 caused-ranged r (starts {c} {x} q) h v b =
     coordinator-ranged r c x b (rw q at (start-cases (CoordinatorToInRange (r .n)) (none-heard (r .n) (b .positive)) tt (r .coordinator)))
-caused-ranged r (delivers {m} {i} _) h v b = receive-ranged (drop m i r) m i (h .1) (drop-ranged r m i b)
+caused-ranged r (delivers {m} {i} _) h v b = receive-ranged (takeOut m i r) m i (h .1) (take-out-ranged r m i b)
 caused-ranged r (copies {m} {i} _) h v b = receive-ranged r m i (h .1) b
-caused-ranged r (loses {m} {i}) h v b = drop-ranged r m i b
+caused-ranged r (loses {m} {i}) h v b = take-out-ranged r m i b
 caused-ranged r (answered {i} {j} {l} {p} {x} a) h v b =
     to-ranged (called (suc i) j (l .log) r) i p x (h .0) (called-ranged r (suc i) j (l .log) (h .0) (h .2) b)
     (rw (a .answer) at (answer-range (r .n) i (h .0) (participantOf r i) j (l .answer) (h .2) (call-guard r i j l (h .0) (h .2) v (a .done)) (b .participants i (h .0))))
@@ -147,11 +147,11 @@ caused-ranged r (coordinator-answered {j} {l} {c} {x} a) h v b =
     (rw (a .answer) at (coordinator-answer-range (r .n) (r .coordinator) j (l .answer) (h .2) (b .coordinator)))
 caused-ranged r (coordinator-lost {j} {l} a) h v b = called-ranged r 0 j (l .log) (h .0) (h .2) b
 caused-ranged r (times-out {i} {p} {x} q) h v b = to-ranged r i p x h b (rw q at (timeout-range (r .n) i h (participantOf r i) (b .participants i h)))
-caused-ranged r (crashes {i} {p} {x} q) h v b = to-ranged r i p x h b (rw q at (crash-cases (ToInRange (r .n) i) tt tt (participantOf r i)))
+caused-ranged r (crashes {i} {p} {x} q) h v b = to-ranged r i p x h b (rw q at (crash-cases (λ p t. ToInRange (r .n) i t) (λ p. tt) tt (participantOf r i)))
 caused-ranged r (restarts {i} {p} {x} q) h v b = to-ranged r i p x h b (rw q at (restart-cases (λ p t. ToInRange (r .n) i t) tt (λ p. tt) (participantOf r i)))
 caused-ranged r (coordinator-times-out {c} {x} q) h v b =
     coordinator-ranged r c x b (rw q at (coordinator-timeout-cases (CoordinatorToInRange (r .n)) (none-heard (r .n) (b .positive)) tt (r .coordinator)))
-caused-ranged r (coordinator-crashes {c} {x} q) h v b = coordinator-ranged r c x b (rw q at (coordinator-crash-cases (CoordinatorToInRange (r .n)) tt tt (r .coordinator)))
+caused-ranged r (coordinator-crashes {c} {x} q) h v b = coordinator-ranged r c x b (rw q at (coordinator-crash-cases (λ c t. CoordinatorToInRange (r .n) t) (λ c. tt) tt (r .coordinator)))
 caused-ranged r (coordinator-restarts {c} {x} q) h v b = coordinator-ranged r c x b (rw q at (coordinator-restart-cases (CoordinatorToInRange (r .n)) tt tt (r .coordinator)))
 
 -- over a list

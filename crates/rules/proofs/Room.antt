@@ -5,7 +5,7 @@ use Prim.Native.Nat.{ℕ, suc, _+_}
 use lib.ListN.{length, getD, length-set}
 use Rattle.coordinator.specs.Coordinator
 use Rattle.rules.specs.State.{messagePlace}
-use Rattle.rules.specs.Step.{withMask, send, drop, sendAll, withParticipant, withCoordinator, called, participantTo, coordinatorTo, coordinatorGoes, receive, step}
+use Rattle.rules.specs.Step.{withMask, send, takeOut, sendAll, withParticipant, withCoordinator, called, participantTo, coordinatorTo, coordinatorGoes, receive, step}
 use Rattle.rules.specs.Run.{after}
 use Rattle.rules.specs.Types.{LogPair, Participant, Sent, Coordinator, CoordinatorTransition, Message, Step, Release, Report}
 use Rattle.rules.proofs.Causes.{Cause, idles, starts, delivers, copies, loses, answered, lost, coordinator-answered, coordinator-lost, times-out, crashes, restarts, coordinator-times-out, coordinator-crashes, coordinator-restarts, cause}
@@ -62,7 +62,7 @@ called-room p j l r =
 pub caused-room : (r : Release) {s : Step} {t : Report} → Cause r s t → SameRoom r (t .next)
 caused-room r idles = room-refl r
 caused-room r (starts {c} {x} q) = coordinator-room c x r
-caused-room r (delivers {m} {i} b) = room-then r (drop m i r) _ (masked m _ r) (receive-room m i (drop m i r))
+caused-room r (delivers {m} {i} b) = room-then r (takeOut m i r) _ (masked m _ r) (receive-room m i (takeOut m i r))
 caused-room r (copies {m} {i} b) = receive-room m i r
 caused-room r (loses {m}) = masked m _ r
 caused-room r (answered {i} {j} {l} {p} {x} a) = room-then r (called (suc i) j (l .log) r) _ (called-room (suc i) j (l .log) r) (to-room i p x (called (suc i) j (l .log) r))

@@ -9,12 +9,12 @@ use Rattle.participant.specs.Participant
 use Rattle.coordinator.specs.Coordinator
 use Rattle.rules.specs.State.{participantOf, logOf, firstOf, lastOf}
 use Rattle.rules.specs.Report.{withClosed}
-use Rattle.rules.specs.Step.{called, drop, moved, participantTo, participantGoes, coordinatorTo, coordinatorGoes, receive, step}
+use Rattle.rules.specs.Step.{called, takeOut, moved, participantTo, participantGoes, coordinatorTo, coordinatorGoes, receive, step}
 use Rattle.kind.specs.Step.{inRange}
 use Rattle.rules.specs.Types.{LogRecord, LogPair, Call, Logged, Performed, Participant, Sent, Decision, Transition, NotDue, To, Coordinator, CoordinatorTransition, Message, Step, Release, Report}
 use Rattle.rules.proofs.FirstRecords.{still, Keeps, keeps-refl, keeps-trans}
 use Rattle.rules.proofs.Invariant.{Tells, Inv, participantClaim, coordinatorClaim}
-use Rattle.rules.proofs.Updates.{drop-inv, Change, called-at, called-keeps, called-inv, Good, idle-good, participant-good, coordinator-good}
+use Rattle.rules.proofs.Updates.{take-out-inv, Change, called-at, called-keeps, called-inv, Good, idle-good, participant-good, coordinator-good}
 use Rattle.rules.proofs.Ranges.{Guard}
 use Rattle.rules.proofs.Calls.{Says, says, Pends, CallFits, perform-fits, pending-fits, coordinator-pending-fits}
 use Rattle.rules.proofs.Transitions.{Stands, Fits, CoordinatorFits, request-stands, decision-stands, timeout-fits, crash-fits, restart-fits, answer-fits, start-fits, replyYes-fits, replyAbort-fits, coordinator-timeout-fits, coordinator-crash-fits, coordinator-restart-fits, coordinator-answer-fits}
@@ -144,10 +144,10 @@ caused-good : (r : Release) {s : Step} {t : Report} → Cause r s t → Bounds (
 caused-good r idles h v = idle-good r v
 caused-good r (starts {c} {x} q) h v = coordinator-goes-good r (CoordinatorTransition.To c x) v (rw q at (start-fits (r .n) (firstOf r) (r .coordinator)))
 caused-good r (delivers {m} {i} b) h v =
-    after-good r (drop m i r) (receive m i (drop m i r)) refl (keeps-refl (logOf r))
-    (receive-good (drop m i r) i (h .1) (drop-inv r m i v) m (v .tells m i (h .1) b))
+    after-good r (takeOut m i r) (receive m i (takeOut m i r)) refl (keeps-refl (logOf r))
+    (receive-good (takeOut m i r) i (h .1) (take-out-inv r m i v) m (v .tells m i (h .1) b))
 caused-good r (copies {m} {i} b) h v = receive-good r i (h .1) v m (v .tells m i (h .1) b)
-caused-good r (loses {m} {i}) h v = moved-good r (drop m i r) (drop-inv r m i v) refl (keeps-refl (logOf r))
+caused-good r (loses {m} {i}) h v = moved-good r (takeOut m i r) (take-out-inv r m i v) refl (keeps-refl (logOf r))
 caused-good r (answered {i} {j} {l} {p} {x} a) h v =
     called-good r (suc i) j (l .log) _ (participantTo i p x (called (suc i) j (l .log) r)) v (call-change r i j l (h .0) (h .2) v (a .done))
     (λ w. goes-good (called (suc i) j (l .log) r) i (To p x) w (rw (a .answer) at (call-fits r i j l (h .0) (h .2) v (a .done))))

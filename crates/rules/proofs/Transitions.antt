@@ -64,7 +64,7 @@ module _ (n : ℕ) (F : ℕ → LogRecord) (i : ℕ) (e : LogRecord) where
       (λ h k. (record { knows = record { own = k .own; others = has-zero i; heard = heard-none n F }; ends = tt }, tt)) (λ p k. tt) p
 
   pub crash-fits : (p : Participant) → Fits n F i e (Participant.onCrash p)
-  crash-fits p = crash-cases (Fits n F i e) (record { knows = tt; ends = tt }, tt) tt p
+  crash-fits p = crash-cases (λ p t. Fits n F i e t) (λ p. (record { knows = tt; ends = tt }, tt)) tt p
 
   pub restart-fits : (p : Participant) → Fits n F i e (Participant.onRestart p)
   restart-fits p = restart-cases (λ p t. Fits n F i e t) (stands-closing, tt) (λ p. tt) p
@@ -131,7 +131,7 @@ module _ (n : ℕ) (F : ℕ → LogRecord) where
   coordinator-timeout-fits c = coordinator-timeout-cases (CoordinatorFits n F) (to-fits (Coordinator.Terminating 0) (heard-none n F)) tt c
 
   pub coordinator-crash-fits : (c : Coordinator) → CoordinatorFits n F (Coordinator.onCrash c)
-  coordinator-crash-fits c = coordinator-crash-cases (CoordinatorFits n F) (to-fits Coordinator.Down tt) tt c
+  coordinator-crash-fits c = coordinator-crash-cases (λ c t. CoordinatorFits n F t) (λ c. to-fits Coordinator.Down tt) tt c
 
   pub coordinator-restart-fits : (c : Coordinator) → CoordinatorFits n F (Coordinator.onRestart c)
   coordinator-restart-fits c = coordinator-restart-cases (CoordinatorFits n F) (to-fits Coordinator.Retired tt) tt c

@@ -16,10 +16,11 @@ use Rattle.coordinator.specs.Coordinator
 use Rattle.rules.proofs.Cases.{cond-cases, answer-cases, request-cases, decision-cases, crash-cases, start-cases, replyYes-cases, replyAbort-cases, coordinator-crash-cases, enters-cases}
 use Rattle.rules.specs.State.{participantOf, participantAt, logOf, logAt, firstOf, waiting, fresh}
 use Rattle.rules.specs.Report.{moves}
-use Rattle.rules.specs.Step.{called, drop, withParticipant, participantTo, coordinatorTo, coordinatorGoes, receive, step}
+use Rattle.rules.specs.Step.{called, takeOut, withParticipant, participantTo, coordinatorTo, coordinatorGoes, receive, step}
 use Rattle.rules.specs.Demand.{SomeAbort, Reported, AllCalm}
 use Rattle.rules.specs.Types.{LogRecord, None, Yes, Abort, Commit, LogPair, Call, Logged, Performed, Participant, Waiting, VotingYes, Closing, Uncertain, Terminating, RecordingCommit, RecordingAbort, DoneCommit, DoneAbort, Down, Site, Sent, Decision, Transition, NotDue, To, Coordinator, CoordinatorTransition, Message, Step, Timeout, Restart, Outcome, Release, Report}
 use Rattle.rules.proofs.FirstRecords.{true-false}
+use Rattle.rules.proofs.Written.{LeavesFirst, Writes, perform-first}
 use Rattle.rules.proofs.Invariant.{Inv}
 use Rattle.rules.proofs.Updates.{set-all, Good}
 use Rattle.rules.proofs.Bounds.{Bounds, bounds}
@@ -149,36 +150,10 @@ replyAbort-willing c = replyAbort-cases (λ c t. CoordinatorWilling c → Coordi
 -- a willing party's call leaves no abort as a first record
 
 abbrev LeavesNoAbort : Performed → Type 0
-LeavesNoAbort Performed.Refused = Unit {0}
-LeavesNoAbort (Performed.Done x) = NotAbort (x .log .first)
+LeavesNoAbort p = LeavesFirst NotAbort p
 
 abbrev WillingCall : Call → Type 0
-WillingCall Call.None = Unit {0}
-WillingCall (Call.LogOnce r) = NotAbort r
-WillingCall (Call.Log r) = Unit {0}
-
-log-no-abort : (r last first : LogRecord) → NotAbort first → LeavesNoAbort (perform (Call.Log r) (record { first = first; last = last }))
-log-no-abort None last first h = tt
-log-no-abort Yes last first h = tt
-log-no-abort Abort None first h = tt
-log-no-abort Abort Yes first h = h
-log-no-abort Abort Abort first h = h
-log-no-abort Abort Commit first h = tt
-log-no-abort Commit None first h = tt
-log-no-abort Commit Yes first h = h
-log-no-abort Commit Abort first h = tt
-log-no-abort Commit Commit first h = h
-
-once-no-abort : (r first last : LogRecord) → NotAbort r → NotAbort first → LeavesNoAbort (perform (Call.LogOnce r) (record { first = first; last = last }))
-once-no-abort r None last k h = k
-once-no-abort r Yes last k h = tt
-once-no-abort r Abort last k h = h
-once-no-abort r Commit last k h = tt
-
-perform-no-abort : (c : Call) (l : LogPair) → WillingCall c → NotAbort (l .first) → LeavesNoAbort (perform c l)
-perform-no-abort Call.None l k h = tt
-perform-no-abort (Call.LogOnce r) l k h = once-no-abort r (l .first) (l .last) k h
-perform-no-abort (Call.Log r) l k h = log-no-abort r (l .last) (l .first) h
+WillingCall c = Writes NotAbort c
 
 own-willing : (i j : ℕ) (c : Call) → WillingCall c → WillingCall (Participant.ownCall i j c)
 own-willing i j c w = cond-cases WillingCall (eqb j i) c Call.None (λ t. w) (λ t. tt)
@@ -229,7 +204,7 @@ receive-unanimous r Message.Abort i h u =
 call-unanimous : (r : Release) (i j : ℕ) (l : Logged) (p : Participant) (x : Sent) → i < r .n → j < r .n → ParticipantCall r i j l p x → Unanimous r
     → Unanimous (called (suc i) j (l .log) r) × Willing p
 call-unanimous r i j l p x hi hj a u = (
-  called-unanimous r (suc i) j (l .log) u (rw (a .done) at (perform-no-abort (Participant.pending i (participantOf r i) j) (logOf r j) (pending-willing i (participantOf r i) j (u .willing i hi)) (u .no-abort j hj))),
+  called-unanimous r (suc i) j (l .log) u (rw (a .done) at (perform-first NotAbort (Participant.pending i (participantOf r i) j) (logOf r j) (pending-willing i (participantOf r i) j (u .willing i hi)) (u .no-abort j hj))),
   rw (a .answer) at (answer-willing (r .n) i (participantOf r i) j (l .answer) (u .willing i hi)),
 )
 
@@ -247,7 +222,7 @@ record Quiet (s : Step) (o : Outcome) : Type 0 where
 caused-unanimous : (r : Release) {s : Step} {t : Report} → Cause r s t → Bounds (r .n) s → Quiet s (t .outcome) → Unanimous r → Unanimous (t .next)
 caused-unanimous r idles h d u = u
 caused-unanimous r (starts {c} {x} q) h d u = coordinator-unanimous r c x u (rw q at (start-cases CoordinatorWillingTo tt tt (r .coordinator)))
-caused-unanimous r (delivers {m} {i} b) h d u = receive-unanimous (drop m i r) m i (h .1) u
+caused-unanimous r (delivers {m} {i} b) h d u = receive-unanimous (takeOut m i r) m i (h .1) u
 caused-unanimous r (copies {m} {i} b) h d u = receive-unanimous r m i (h .1) u
 caused-unanimous r loses h d u = u
 caused-unanimous r (answered {i} {j} {l} {p} {x} a) h d u =
@@ -256,10 +231,10 @@ caused-unanimous r (lost {i} {j} {l} {p} {x} a) h d u = call-unanimous r i j l p
 caused-unanimous r (coordinator-answered {j} {l} {c} {x} a) h d u = absurd (no-call r j l c x a u)
 caused-unanimous r (coordinator-lost {j} {l} {c} {x} a) h d u = absurd (no-call r j l c x a u)
 caused-unanimous r (times-out {i} {p} {x} q) h d u = absurd (true-false (participant-due i p x r) (d .timeout (suc i) refl))
-caused-unanimous r (crashes {i} {p} {x} q) h d u = to-unanimous r i p x u (rw q at (crash-cases WillingTo tt tt (participantOf r i)))
+caused-unanimous r (crashes {i} {p} {x} q) h d u = to-unanimous r i p x u (rw q at (crash-cases (λ p t. WillingTo t) (λ p. tt) tt (participantOf r i)))
 caused-unanimous r (restarts {i} {p} {x} q) h d u = absurd (true-false (participant-due i p x r) (d .restart (suc i) refl))
 caused-unanimous r (coordinator-times-out {c} {x} q) h d u = absurd (true-false (coordinator-due c x r) (d .timeout 0 refl))
-caused-unanimous r (coordinator-crashes {c} {x} q) h d u = coordinator-unanimous r c x u (rw q at (coordinator-crash-cases CoordinatorWillingTo tt tt (r .coordinator)))
+caused-unanimous r (coordinator-crashes {c} {x} q) h d u = coordinator-unanimous r c x u (rw q at (coordinator-crash-cases (λ c t. CoordinatorWillingTo t) (λ c. tt) tt (r .coordinator)))
 caused-unanimous r (coordinator-restarts {c} {x} q) h d u = absurd (true-false (coordinator-due c x r) (d .restart 0 refl))
 
 -- over a list

@@ -1,5 +1,5 @@
 -- Each update of a release keeps the invariant. Assumes nothing.
-use mathlib.Core.Path.{_≡_, refl, sym, ap, _∙_}
+use mathlib.Core.Path.{_≡_, refl, sym}
 use mathlib.Core.List.{List, [], _∷_}
 use mathlib.Core.Bool.{true}
 use Prim.Native.Nat.{ℕ, zero, suc, _≤_, _<_}
@@ -11,8 +11,9 @@ use Rattle.mask.proofs.Laws.{has-insert-cases, has-remove}
 use Rattle.store.specs.Log.{empty}
 use Rattle.rules.specs.State.{participantOf, logOf, firstOf, lastOf, messagePlace, maskAt, maskOf, waiting}
 use Rattle.rules.specs.Report.{known, coordinatorKnown, learnt}
-use Rattle.rules.specs.Step.{withMask, send, sendAll, drop, withParticipant, participantTo, withCoordinator, coordinatorTo, called, idle}
+use Rattle.rules.specs.Step.{withMask, send, sendAll, takeOut, withParticipant, participantTo, withCoordinator, coordinatorTo, called, idle}
 use Rattle.rules.specs.Types.{LogRecord, LogPair, Participant, Coordinator, Message, Sent, Site, Release, Report}
+use Rattle.rules.proofs.Messages.{same-message}
 use Rattle.rules.proofs.FirstRecords.{still, Keep, Keeps, keep-refl, keeps-refl}
 use Rattle.rules.proofs.Invariant.{Knows, Ends, Allowed, CoordinatorKnows, Tells, Backed, Inv, participantClaim, logClaim, coordinatorClaim, messageClaim, known-backed, coordinator-backed, learnt-backed}
 
@@ -28,25 +29,7 @@ set-all Q (y ∷ ys) (suc k) x d old new (suc j) = set-all (λ i a. Q (suc i) a)
 le-set {ℓ} : {A : Type ℓ} (l : List A) (k : ℕ) (x : A) {n : ℕ} → n ≤ length l → n ≤ length (set l k x)
 le-set l k x h = rw (length-set l k x) h
 
--- the same of the masks: two types never share a place
-
-abbrev messageAt : ℕ → Message
-messageAt zero = Message.Request
-messageAt (suc zero) = Message.ReplyYes
-messageAt (suc (suc zero)) = Message.ReplyAbort
-messageAt (suc (suc (suc zero))) = Message.Commit
-messageAt (suc (suc (suc (suc k)))) = Message.Abort
-
-message-back : (m : Message) → messageAt (messagePlace m) ≡ m
-message-back Message.Request = refl
-message-back Message.ReplyYes = refl
-message-back Message.ReplyAbort = refl
-message-back Message.Commit = refl
-message-back Message.Abort = refl
-
-same-message : (k m : Message) → messagePlace k ≡ messagePlace m → k ≡ m
-same-message k m q = sym (message-back k) ∙ ap messageAt q ∙ message-back m
-
+-- the same of the masks
 pub mask-all : (Q : Message → ℕ → Type 0) (masks : List ℕ) (m : Message) (x : ℕ)
     → ((k : Message) → Q k (maskAt masks k)) → Q m x → (k : Message) → Q k (maskAt (set masks (messagePlace m) x) k)
 mask-all Q masks m x old new k =
@@ -72,8 +55,8 @@ send-inv r m i v new =
     mask-inv r m (insert i (maskOf r m)) v
     (λ j l h. has-insert-cases (λ x. Tells (r .n) (firstOf r) x m) i j (maskOf r m) new (v .tells m j l) h)
 
-pub drop-inv : (r : Release) (m : Message) (i : ℕ) → Inv r → Inv (drop m i r)
-drop-inv r m i v = mask-inv r m (remove i (maskOf r m)) v (λ j l h. v .tells m j l (has-remove i j (maskOf r m) h))
+pub take-out-inv : (r : Release) (m : Message) (i : ℕ) → Inv r → Inv (takeOut m i r)
+take-out-inv r m i v = mask-inv r m (remove i (maskOf r m)) v (λ j l h. v .tells m j l (has-remove i j (maskOf r m) h))
 
 -- what participant i may send to the coordinator, and the coordinator to all
 

@@ -1,5 +1,5 @@
 -- A decision delivered to a participant, as request 2026-02 amends document 01: where it leads, what the step reports, and that one answered call is
--- left then. Proved in proofs/Decision.antt. Assumes nothing.
+-- left then, which records it. Proved in proofs/Decision.antt. Assumes nothing.
 use mathlib.Core.Path.{_≡_}
 use mathlib.Core.Logic.{_⊎_}
 use mathlib.Core.Bool.{true}
@@ -12,8 +12,8 @@ use Rattle.rules.specs.State.{participantOf, inFlight, fresh}
 use Rattle.rules.specs.Report.{stepByte}
 use Rattle.rules.specs.Step.{withParticipant, step}
 use Rattle.rules.specs.Run.{after}
-use Rattle.rules.specs.Demand.{Holds, answered, AllUndisturbed}
-use Rattle.rules.specs.Types.{Message, Decision, Uncertain, Terminating, Release, Step, Deliver, Copy}
+use Rattle.rules.specs.Demand.{Recorded, answered, AllUndisturbed}
+use Rattle.rules.specs.Types.{LogRecord, Message, Decision, Uncertain, Terminating, DoneCommit, DoneAbort, Release, Step, Deliver, Copy}
 
 -- the message of a decision, and the byte that reports it
 abbrev pub decisionMessage : Decision → Message
@@ -42,12 +42,17 @@ pub record DecisionDelivered (r : Release) (s : Step) (d : Decision) (i : ℕ) :
 abbrev pub DeliveredAsWritten : Type 0
 DeliveredAsWritten = (r : Release) (s : Step) (d : Decision) (i : ℕ) → i < length (r .sites) → DeliversDecision r s d i → DecisionDelivered r s d i
 
--- Under the demand's conditions on it, a participant that takes a decision by s holds a recorded decision after one answered call of its own
-abbrev pub OneCallLeft : Release → Step → List Step → ℕ → Type 0
-OneCallLeft r s ys i = AllUndisturbed i (step r s .next) ys → 1 ≤ answered i (step r s .next) ys → Holds (after (step r s .next) ys) i
+-- participant i holds a record of that decision
+abbrev pub HoldsDecision : Decision → Release → ℕ → Type 0
+HoldsDecision Decision.Commit r i = Recorded r i DoneCommit LogRecord.Commit
+HoldsDecision Decision.Abort r i = Recorded r i DoneAbort LogRecord.Abort
+
+-- Under the demand's conditions on it, a participant that takes decision d by s holds a record of d after one answered call of its own
+abbrev pub OneCallLeft : Release → Step → Decision → List Step → ℕ → Type 0
+OneCallLeft r s d ys i = AllUndisturbed i (step r s .next) ys → 1 ≤ answered i (step r s .next) ys → HoldsDecision d (after (step r s .next) ys) i
 
 abbrev pub HeldAfterOneCall : Type 0
 HeldAfterOneCall =
     (places n votes : ℕ) → n ≤ places → (xs : List Step) (s : Step) (ys : List Step) → AllInRange n (xs ++ (s ∷ ys)) → (d : Decision) (i : ℕ) → i < n
     → DeliversDecision (after (fresh places n votes) xs) s d i → TakesDecision (participantOf (after (fresh places n votes) xs) i)
-    → OneCallLeft (after (fresh places n votes) xs) s ys i
+    → OneCallLeft (after (fresh places n votes) xs) s d ys i

@@ -129,10 +129,14 @@ CutHolds =
     (places n votes : ℕ) → n ≤ places → (before : List Step) (crashed : List ℕ) (rest : List Step) → AllInRange n before → AllParties n crashed
     → AllInRange n rest → Demand places n votes (before ++ (crashes crashed ++ rest))
 
--- At the cut every log and every message in flight stands as the last step left it; the parties named are down, the others keep their states
+-- At the cut n, the votes, every log, every count and every message in flight stand as the last step left them; the parties named are down, the others
+-- keep their states
 
 pub record Cut (r : Release) (crashed : List ℕ) (t : Release) : Type 0 where
+  pub same-n : t .n ≡ r .n
+  pub same-votes : t .votes ≡ r .votes
   pub logs : t .store ≡ r .store
+  pub counts : t .calls ≡ r .calls
   pub messages : t .messages ≡ r .messages
   pub coordinator-down : List·Memᴰ 0 crashed → t .coordinator ≡ Coordinator.Down
   pub coordinator-kept : (List·Memᴰ 0 crashed → ⊥) → t .coordinator ≡ r .coordinator

@@ -1,10 +1,14 @@
 pub mod Types
+pub mod Commitment
 pub mod State
 pub mod Report
 pub mod Step
+pub mod Actions
+pub mod OneParty
 pub mod Due
 pub mod Run
 pub mod Demand
+pub mod History
 pub mod Range
 pub mod Places
 pub mod Closed

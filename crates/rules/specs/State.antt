@@ -32,6 +32,10 @@ firstOf r j = logOf r j .first
 abbrev pub lastOf : Release → ℕ → LogRecord
 lastOf r j = logOf r j .last
 
+-- the due store calls that party p has made
+abbrev pub callsOf : Release → ℕ → ℕ
+callsOf r p = getD (r .calls) p 0
+
 -- five message masks, one for each type
 abbrev pub types : ℕ
 types = 5

@@ -27,8 +27,8 @@ withMask m x r =
 abbrev pub send : Message → ℕ → Release → Release
 send m i r = withMask m (insert i (maskOf r m)) r
 
-abbrev pub drop : Message → ℕ → Release → Release
-drop m i r = withMask m (remove i (maskOf r m)) r
+abbrev pub takeOut : Message → ℕ → Release → Release
+takeOut m i r = withMask m (remove i (maskOf r m)) r
 
 abbrev pub sendAll : Message → Release → Release
 sendAll m r = withMask m (full (r .n)) r
@@ -131,11 +131,11 @@ calls heard (suc i) (suc j) r = participantCalls heard i j r
 abbrev pub step : Release → Step → Report
 step r Start = coordinatorGoes (Coordinator.onStart (r .coordinator)) r
 step r (Deliver m zero) = idle r
-step r (Deliver m (suc i)) = cond (inFlight r m i) (receive m i (drop m i r)) (idle r)
+step r (Deliver m (suc i)) = cond (inFlight r m i) (receive m i (takeOut m i r)) (idle r)
 step r (Copy m zero) = idle r
 step r (Copy m (suc i)) = cond (inFlight r m i) (receive m i r) (idle r)
 step r (Lose m zero) = idle r
-step r (Lose m (suc i)) = cond (inFlight r m i) (moved (drop m i r)) (idle r)
+step r (Lose m (suc i)) = cond (inFlight r m i) (moved (takeOut m i r)) (idle r)
 step r (Step.Call p q) = calls true p q r
 step r (Step.CallLost p q) = calls false p q r
 step r (Timeout zero) = coordinatorGoes (Coordinator.onTimeout (r .coordinator)) r

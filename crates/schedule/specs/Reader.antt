@@ -4,9 +4,9 @@ use mathlib.Core.List.{List}
 use Prim.Native.Nat.{ℕ, _+_}
 use lib.Dec.{eqb, leb}
 use lib.ListN.{length, getD, drop}
-use Rattle.number.specs.Refusal.{Handed, hands, accepted, emptyOrTooLong, unknownKind, bodyCutShort, headerMisplaced, outOfRange}
+use Rattle.number.specs.Refusal.{accepted, emptyOrTooLong, unknownKind, bodyCutShort, headerMisplaced, outOfRange}
 use Rattle.number.specs.Low.{lowNumber}
-use Rattle.kind.specs.Kind.{kindOf, isKind, firstWidth, secondWidth, bodyLength, isHeader}
+use Rattle.kind.specs.Kind.{kindNumber, kindOf, isKind, firstWidth, secondWidth, bodyLength, isHeader}
 use Rattle.kind.specs.Step.{ofKind}
 use Rattle.schedule.specs.Types.{Kind, Step, Record, Before, Read}
 use Rattle.schedule.specs.Record.{headerInRange, recordInRange, recordLength}
@@ -53,10 +53,23 @@ readerAnswers bytes before =
     cond (eqb (length bytes) 0) (refused emptyOrTooLong)
     (cond (isKind (getD bytes 0 0)) (kindAnswer bytes before (kindOf (getD bytes 0 0))) (refused unknownKind))
 
--- what each case of the answer hands over: 0 and the record's length, or the refusal's number and place
-abbrev pub readHands : Read → Handed
-readHands (Read.Record r l) = hands accepted l
-readHands (Read.Refused k place) = hands k place
+-- what the reader hands over: the refusal's number or 0; the record's length, or the place of the refusal; and the record's numbers, its kind's
+-- among them, 0 each for a refusal
+pub record ReadHanded : Type 0 where
+  pub number : ℕ
+  pub value : ℕ
+  pub kind : ℕ
+  pub first : ℕ
+  pub second : ℕ
+
+-- what each case of the answer hands over
+abbrev pub readHands : Read → ReadHanded
+readHands (Read.Record r l) = record { number = accepted; value = l; kind = kindNumber (r .kind); first = r .first; second = r .second }
+readHands (Read.Refused k place) = record { number = k; value = place; kind = 0; first = 0; second = 0 }
+
+-- what the answer to these bytes hands over
+abbrev pub readerHands : List ℕ → Before → ReadHanded
+readerHands bytes before = readHands (readerAnswers bytes before)
 
 -- what accepted bytes begin with, without a test: the step, and the length of its record. Numbers that its kind does not use are not looked at
 

@@ -10,8 +10,8 @@ use Rattle.kind.specs.Step.{stepKind, firstNumber, secondNumber, ofKind, number
 use Rattle.schedule.specs.Types.{Step, Header, Record}
 
 -- the record of a kind's number and the two numbers of its body, 0 where the body has none
-abbrev pub recordOf : ℕ → ℕ → ℕ → Record
-recordOf k a b = record { kind = kindOf k; first = a; second = b }
+abbrev pub recordByNumbers : ℕ → ℕ → ℕ → Record
+recordByNumbers k a b = record { kind = kindOf k; first = a; second = b }
 
 -- a header and a step as records, and back
 

@@ -2,10 +2,9 @@
 pub mod reader;
 
 use kind::Kind;
-use kind::Step;
 use kind::between;
 ghost use mathlib.Core.Path.{_≡_};
-ghost use Rattle.schedule.specs.Record.{headerInRange, recordHeader, recordStep, recordInRange, recordLength};
+ghost use Rattle.schedule.specs.Record.{headerInRange, recordHeader, recordInRange, recordLength};
 
 // The most bytes that a schedule has, and the last place at which a record is written.
 pub const LONGEST: usize = 32768;
@@ -57,14 +56,6 @@ impl Record {
             n: self.first,
             votes: self.second,
         }
-    }
-
-    // The step of its kind with its numbers.
-    pub fn step(self) -> Step
-        ensures { λ s. ⌜ s ≡ recordStep self ⌝ }
-    {
-        let kind = self.kind;
-        Step::of(kind, self.first, self.second)
     }
 
     // Whether its numbers are in range: a step's by n, a header's by its own n.

@@ -15,7 +15,7 @@ ghost use Prim.Native.Nat.{_+_, _≤_, _<_};
 ghost use lib.ListN.{length, getD, drop};
 ghost use Rattle.number.specs.Low.{lowNumber};
 ghost use Rattle.kind.specs.Kind.{bodyLength};
-ghost use Rattle.schedule.specs.Reader.{recordAt, inRangeAfter, ranged, readerAnswers, stepAt, lengthAt};
+ghost use Rattle.schedule.specs.Reader.{recordAt, inRangeAfter, ranged, readerAnswers, readHands, readerHands, stepAt, lengthAt};
 ghost use Rattle.schedule.specs.Found.{kindAt};
 ghost use Rattle.schedule.specs.declared.reader.Before.{Before};
 
@@ -29,6 +29,18 @@ pub enum Before {
 pub enum Read {
     Record(Record, usize),
     Refused(u32, usize),
+}
+
+impl Read {
+    // The refusal's number, or 0.
+    pub fn number(self) -> u32
+        ensures { λ k. ⌜ k ≡ readHands self .number ⌝ }
+    {
+        match self {
+            Read::Record(_, _) => 0,
+            Read::Refused(k, _) => k,
+        }
+    }
 }
 
 // The kind of a record, where all of its body is there; or a refusal's number.
@@ -148,7 +160,7 @@ pub fn read_step(bytes: &[u8], h: Header) -> Read
 
 // The record at the beginning of the bytes. The bytes after it are the rest of the same schedule.
 pub fn read_record(bytes: &[u8], before: Before) -> Read
-    ensures { λ x. ⌜ x ≡ readerAnswers (now (bytes .entry)) before ⌝ }
+    ensures { λ x. ⌜ (x ≡ readerAnswers (now (bytes .entry)) before) × (readHands x ≡ readerHands (now (bytes .entry)) before) ⌝ }
 {
     match before {
         Before::Nothing => read_header(bytes),

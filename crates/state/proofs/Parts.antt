@@ -78,7 +78,7 @@ module _ (r : Release) (h : HasPlaces r) where
   pub participant-in : (i : ℕ) → i < places → participantIn (fields r) i ≡ participantOf r i
   unfolding participantIn
   participant-in i g =
-      ap₂ Participant.participantOf (state-in i g) (heard-in i g)
+      ap₂ Participant.ofNumbers (state-in i g) (heard-in i g)
       ∙ participant-numbers .decoded (participantOf r i)
 
   pub message-in : (k : ℕ) → k < types → getD (fields r) (messagesFrom + k) 0 ≡ getD (r .messages) k 0

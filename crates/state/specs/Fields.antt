@@ -88,7 +88,7 @@ callsIn l p = getD l (countsFrom + p) 0
 -- a part read
 
 unfoldable pub coordinatorIn : List ℕ → Coordinator
-coordinatorIn l = Coordinator.coordinatorOf (coordinatorStateIn l) (coordinatorHeardIn l)
+coordinatorIn l = Coordinator.ofNumbers (coordinatorStateIn l) (coordinatorHeardIn l)
 
 unfoldable pub maskPlace : Message → ℕ
 maskPlace m = messagesFrom + messagePlace m
@@ -97,7 +97,7 @@ unfoldable pub maskIn : List ℕ → Message → ℕ
 maskIn l m = getD l (maskPlace m) 0
 
 unfoldable pub participantIn : List ℕ → ℕ → Participant
-participantIn l i = Participant.participantOf (stateIn l i) (heardIn l i)
+participantIn l i = Participant.ofNumbers (stateIn l i) (heardIn l i)
 
 -- a part put
 

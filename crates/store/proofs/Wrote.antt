@@ -7,15 +7,15 @@ use native.Mathlib.Omega.{arith}
 use Rattle.number.specs.Refusal.{outOfRange, wrongRecord, refusedByRule}
 use Rattle.store.specs.Types.{LogRecord, None, Yes, Abort, Commit, LogPair, Performed}
 use Rattle.store.specs.Log.{isAllowed, logOnce, log}
-use Rattle.store.specs.Entry.{Handed, done, refused, logOnceTakes, logHands, logTakes, SaysWrote, WroteAsWritten}
+use Rattle.store.specs.Entry.{EntryHanded, done, refused, logOnceTakes, logHands, logTakes, SaysWrote, WroteAsWritten}
 use Rattle.store.proofs.Laws.{once-cases, log-cases}
 
 -- the first record is written, and it is as it was
 
-written : (l : LogPair) (h : Handed) → h .wrote ≡ true → l .first ≡ None → h .log .first ≢ None → SaysWrote l h
+written : (l : LogPair) (h : EntryHanded) → h .wrote ≡ true → l .first ≡ None → h .log .first ≢ None → SaysWrote l h
 written l h w e n = record { wrote = λ x. (e, n); not-wrote = λ x. absurd (true≢false (sym w ∙ x)) }
 
-same : (l : LogPair) (h : Handed) → h .wrote ≡ false → h .log .first ≡ l .first → SaysWrote l h
+same : (l : LogPair) (h : EntryHanded) → h .wrote ≡ false → h .log .first ≡ l .first → SaysWrote l h
 same l h w e = record { wrote = λ x. absurd (false≢true (sym w ∙ x)); not-wrote = λ x. e }
 
 refused-says : (k : ℕ) (l : LogPair) → SaysWrote l (refused k l)
@@ -43,7 +43,7 @@ log-takes Yes l = refused-says wrongRecord l
 log-takes Abort l = log-says Abort l
 log-takes Commit l = log-says Commit l
 
-entry-says : (l : LogPair) (b : Bool) (x : Handed) → SaysWrote l x → SaysWrote l (cond b x (refused outOfRange l))
+entry-says : (l : LogPair) (b : Bool) (x : EntryHanded) → SaysWrote l x → SaysWrote l (cond b x (refused outOfRange l))
 entry-says l true x p = p
 entry-says l false x p = refused-says outOfRange l
 

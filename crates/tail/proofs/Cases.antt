@@ -9,7 +9,6 @@ use lib.ListN.{replicate, set}
 use Rattle.store.specs.Log.{places}
 use Rattle.rules.specs.Step.{participantTo, participantCalls, coordinatorTo, coordinatorCalls}
 use Rattle.number.specs.Table.{tabulate, every}
-use Rattle.number.specs.Refusal.{accepted, outOfRange, notDue}
 use Rattle.tail.specs.Types.{ParticipantFields, Tail}
 use Rattle.tail.specs.Single.{singleStep}
 
@@ -51,77 +50,77 @@ case t k a b number byte = record { state = t; kind = k; a = a; b = b; number = 
 abbrev cases : List Case
 cases =
     -- start, timeout and crash of a fresh release
-    case (idleTail 2 3 0 0) 2 0 0 accepted 1
-    ∷ case (idleTail 2 3 0 0) 8 1 0 accepted 1
-    ∷ case (idleTail 2 3 0 0) 9 0 0 accepted 1
+    case (idleTail 2 3 0 0) 2 0 0 0 1
+    ∷ case (idleTail 2 3 0 0) 8 1 0 0 1
+    ∷ case (idleTail 2 3 0 0) 9 0 0 0 1
     -- n, votes, coordinator state, and its heard mask: outside its states, beyond n, full
-    ∷ case (idleTail 0 0 0 0) 2 0 0 outOfRange 0
-    ∷ case (idleTail 33 3 0 0) 2 0 0 outOfRange 0
-    ∷ case (idleTail 2 4 0 0) 2 0 0 outOfRange 0
-    ∷ case (idleTail 2 3 7 0) 9 0 0 outOfRange 0
-    ∷ case (idleTail 2 3 0 1) 2 0 0 outOfRange 0
-    ∷ case (idleTail 2 3 1 4) 8 0 0 outOfRange 0
-    ∷ case (idleTail 2 3 1 3) 8 0 0 outOfRange 0
-    ∷ case (idleTail 2 3 1 2) 8 0 0 accepted 1
+    ∷ case (idleTail 0 0 0 0) 2 0 0 5 0
+    ∷ case (idleTail 33 3 0 0) 2 0 0 5 0
+    ∷ case (idleTail 2 4 0 0) 2 0 0 5 0
+    ∷ case (idleTail 2 3 7 0) 9 0 0 5 0
+    ∷ case (idleTail 2 3 0 1) 2 0 0 5 0
+    ∷ case (idleTail 2 3 1 4) 8 0 0 5 0
+    ∷ case (idleTail 2 3 1 3) 8 0 0 5 0
+    ∷ case (idleTail 2 3 1 2) 8 0 0 0 1
     -- request 2026-03: n up to 32, the range by n alone; the last bit of a mask of 32, and that bit beyond 31
-    ∷ case (idleTail 9 511 0 0) 2 0 0 accepted 1
-    ∷ case (idleTail 32 4294967295 0 0) 9 32 0 accepted 1
-    ∷ case (idleTail 32 4294967295 1 2147483648) 8 0 0 accepted 1
-    ∷ case (idleTail 32 4294967295 1 4294967295) 8 0 0 outOfRange 0
-    ∷ case (idleTail 31 2147483648 0 0) 2 0 0 outOfRange 0
-    ∷ case (idleTail 8 256 0 0) 2 0 0 outOfRange 0
+    ∷ case (idleTail 9 511 0 0) 2 0 0 0 1
+    ∷ case (idleTail 32 4294967295 0 0) 9 32 0 0 1
+    ∷ case (idleTail 32 4294967295 1 2147483648) 8 0 0 0 1
+    ∷ case (idleTail 32 4294967295 1 4294967295) 8 0 0 5 0
+    ∷ case (idleTail 31 2147483648 0 0) 2 0 0 5 0
+    ∷ case (idleTail 8 256 0 0) 2 0 0 5 0
     -- a message mask beyond n
-    ∷ case (tail 2 3 0 0 (set (replicate 5 0) 4 4) (replicate places zero) (replicate (suc places) 0)) 2 0 0 outOfRange 0
+    ∷ case (tail 2 3 0 0 (set (replicate 5 0) 4 4) (replicate places zero) (replicate (suc places) 0)) 2 0 0 5 0
     -- a participant's state; its heard mask outside 4, with the own bit, full, in 4 with one participant
-    ∷ case (sitesTail (fields 10 0 0 0) zero zero) 2 0 0 outOfRange 0
-    ∷ case (sitesTail (fields 3 2 1 1) zero zero) 2 0 0 outOfRange 0
-    ∷ case (sitesTail (fields 4 1 1 1) zero zero) 2 0 0 outOfRange 0
-    ∷ case (sitesTail (fields 4 2 1 1) zero zero) 2 0 0 outOfRange 0
-    ∷ case (tail 1 1 0 0 (replicate 5 0) (three (fields 4 0 1 1) zero zero) (replicate (suc places) 0)) 2 0 0 outOfRange 0
+    ∷ case (sitesTail (fields 10 0 0 0) zero zero) 2 0 0 5 0
+    ∷ case (sitesTail (fields 3 2 1 1) zero zero) 2 0 0 5 0
+    ∷ case (sitesTail (fields 4 1 1 1) zero zero) 2 0 0 5 0
+    ∷ case (sitesTail (fields 4 2 1 1) zero zero) 2 0 0 5 0
+    ∷ case (tail 1 1 0 0 (replicate 5 0) (three (fields 4 0 1 1) zero zero) (replicate (suc places) 0)) 2 0 0 5 0
     -- a record above 3, a forbidden pair, and each field beyond n
-    ∷ case (sitesTail (fields 0 0 4 0) zero zero) 2 0 0 outOfRange 0
-    ∷ case (sitesTail (fields 0 0 2 3) zero zero) 2 0 0 outOfRange 0
-    ∷ case (sitesTail zero zero (fields 1 0 0 0)) 2 0 0 outOfRange 0
-    ∷ case (sitesTail zero zero (fields 0 1 0 0)) 2 0 0 outOfRange 0
-    ∷ case (sitesTail zero zero (fields 0 0 1 1)) 2 0 0 outOfRange 0
+    ∷ case (sitesTail (fields 0 0 4 0) zero zero) 2 0 0 5 0
+    ∷ case (sitesTail (fields 0 0 2 3) zero zero) 2 0 0 5 0
+    ∷ case (sitesTail zero zero (fields 1 0 0 0)) 2 0 0 5 0
+    ∷ case (sitesTail zero zero (fields 0 1 0 0)) 2 0 0 5 0
+    ∷ case (sitesTail zero zero (fields 0 0 1 1)) 2 0 0 5 0
     -- a count of 65,535, also where the step is no call; one less; a count beyond n
-    ∷ case (tail 2 3 0 0 (replicate 5 0) (replicate places zero) (set (replicate (suc places) 0) 2 65535)) 2 0 0 outOfRange 0
-    ∷ case (tail 2 3 0 0 (replicate 5 0) (replicate places zero) (set (replicate (suc places) 0) 2 65534)) 2 0 0 accepted 1
-    ∷ case (tail 2 3 0 0 (replicate 5 0) (replicate places zero) (set (replicate (suc places) 0) 3 1)) 2 0 0 outOfRange 0
+    ∷ case (tail 2 3 0 0 (replicate 5 0) (replicate places zero) (set (replicate (suc places) 0) 2 65535)) 2 0 0 5 0
+    ∷ case (tail 2 3 0 0 (replicate 5 0) (replicate places zero) (set (replicate (suc places) 0) 2 65534)) 2 0 0 0 1
+    ∷ case (tail 2 3 0 0 (replicate 5 0) (replicate places zero) (set (replicate (suc places) 0) 3 1)) 2 0 0 5 0
     -- no step: a header of either kind, an unknown kind, a type 0 or 6, a number that the kind does not use
-    ∷ case (idleTail 2 3 0 0) 1 2 3 outOfRange 0
-    ∷ case (idleTail 2 3 0 0) 11 2 3 outOfRange 0
-    ∷ case (idleTail 2 3 0 0) 12 0 0 outOfRange 0
-    ∷ case (idleTail 2 3 0 0) 3 0 1 outOfRange 0
-    ∷ case (idleTail 2 3 0 0) 3 6 1 outOfRange 0
-    ∷ case (idleTail 2 3 0 0) 2 1 0 outOfRange 0
-    ∷ case (idleTail 2 3 0 0) 8 1 1 outOfRange 0
+    ∷ case (idleTail 2 3 0 0) 1 2 3 5 0
+    ∷ case (idleTail 2 3 0 0) 11 2 3 5 0
+    ∷ case (idleTail 2 3 0 0) 12 0 0 5 0
+    ∷ case (idleTail 2 3 0 0) 3 0 1 5 0
+    ∷ case (idleTail 2 3 0 0) 3 6 1 5 0
+    ∷ case (idleTail 2 3 0 0) 2 1 0 5 0
+    ∷ case (idleTail 2 3 0 0) 8 1 1 5 0
     -- a participant, a log and a party beyond n, and log 0
-    ∷ case (idleTail 2 3 0 0) 3 1 3 outOfRange 0
-    ∷ case (idleTail 2 3 0 0) 6 1 3 outOfRange 0
-    ∷ case (idleTail 2 3 0 0) 6 1 0 outOfRange 0
-    ∷ case (idleTail 2 3 0 0) 9 3 0 outOfRange 0
+    ∷ case (idleTail 2 3 0 0) 3 1 3 5 0
+    ∷ case (idleTail 2 3 0 0) 6 1 3 5 0
+    ∷ case (idleTail 2 3 0 0) 6 1 0 5 0
+    ∷ case (idleTail 2 3 0 0) 9 3 0 5 0
     -- not due: no message in flight, no call pending, a coordinator that has no timeout
-    ∷ case (idleTail 2 3 0 0) 3 1 1 notDue 0
-    ∷ case (idleTail 2 3 0 0) 6 1 1 notDue 0
-    ∷ case (idleTail 2 3 0 0) 8 0 0 notDue 0
+    ∷ case (idleTail 2 3 0 0) 3 1 1 7 0
+    ∷ case (idleTail 2 3 0 0) 6 1 1 7 0
+    ∷ case (idleTail 2 3 0 0) 8 0 0 7 0
     -- states that no run reaches go by the rules: a Log that is refused, and an answer that state 1 cannot get
-    ∷ case (sitesTail (fields 5 0 0 0) zero zero) 6 1 1 notDue 0
-    ∷ case (sitesTail (fields 1 0 1 3) zero zero) 6 1 1 notDue 0
-    ∷ case (sitesTail (fields 3 0 0 0) zero zero) 8 1 0 accepted 1
+    ∷ case (sitesTail (fields 5 0 0 0) zero zero) 6 1 1 7 0
+    ∷ case (sitesTail (fields 1 0 1 3) zero zero) 6 1 1 7 0
+    ∷ case (sitesTail (fields 3 0 0 0) zero zero) 8 1 0 0 1
     -- decisions: closing its own, empty log, and hearing the last yes
-    ∷ case (sitesTail (fields 2 0 0 0) zero zero) 6 1 1 accepted 3
-    ∷ case (sitesTail (fields 4 0 1 1) (fields 3 0 1 1) zero) 6 1 2 accepted 2
+    ∷ case (sitesTail (fields 2 0 0 0) zero zero) 6 1 1 0 3
+    ∷ case (sitesTail (fields 4 0 1 1) (fields 3 0 1 1) zero) 6 1 2 0 2
     -- another's empty log closed by a participant and by the coordinator, the answer heard and lost
-    ∷ case (sitesTail (fields 4 0 1 1) zero zero) 6 1 2 accepted 7
-    ∷ case (sitesTail (fields 4 0 1 1) zero zero) 7 1 2 accepted 5
-    ∷ case (idleTail 2 3 2 0) 6 0 1 accepted 7
-    ∷ case (idleTail 2 3 2 0) 7 0 1 accepted 5
+    ∷ case (sitesTail (fields 4 0 1 1) zero zero) 6 1 2 0 7
+    ∷ case (sitesTail (fields 4 0 1 1) zero zero) 7 1 2 0 5
+    ∷ case (idleTail 2 3 2 0) 6 0 1 0 7
+    ∷ case (idleTail 2 3 2 0) 7 0 1 0 5
     -- none closed: a log that has its abort, its own log, a yes vote
-    ∷ case (sitesTail (fields 4 0 1 1) (fields 8 0 2 2) zero) 6 1 2 accepted 3
-    ∷ case (sitesTail (fields 4 0 1 1) (fields 8 0 2 2) zero) 7 1 2 accepted 1
-    ∷ case (sitesTail (fields 2 0 0 0) zero zero) 7 1 1 accepted 1
-    ∷ case (sitesTail (fields 1 0 0 0) zero zero) 6 1 1 accepted 1
+    ∷ case (sitesTail (fields 4 0 1 1) (fields 8 0 2 2) zero) 6 1 2 0 3
+    ∷ case (sitesTail (fields 4 0 1 1) (fields 8 0 2 2) zero) 7 1 2 0 1
+    ∷ case (sitesTail (fields 2 0 0 0) zero zero) 7 1 1 0 1
+    ∷ case (sitesTail (fields 1 0 0 0) zero zero) 6 1 1 0 1
     ∷ []
 
 abbrev holds : Case → Bool

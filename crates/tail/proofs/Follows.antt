@@ -62,7 +62,7 @@ tail-encoded : (k : Kind) (t : Tail) → length (t .participants) ≡ places →
 tail-encoded k t l q =
     rw (p .0, p .1, each) refl
   where
-    p : (Coordinator.stateNumber (Coordinator.coordinatorOf (t .state) (t .heard)) ≡ t .state) × (Coordinator.heardOf (Coordinator.coordinatorOf (t .state) (t .heard)) ≡ t .heard)
+    p : (Coordinator.stateNumber (Coordinator.ofNumbers (t .state) (t .heard)) ≡ t .state) × (Coordinator.heardOf (Coordinator.ofNumbers (t .state) (t .heard)) ≡ t .heard)
     p = coordinator-numbers .encoded (t .state) (t .heard) (and-left _ _ (and-left (Coordinator.numbersInRange (t .n) (t .state) (t .heard)) _ (parties-in-range k t q)))
 
     passed : participantsInRange t ≡ true
@@ -116,12 +116,12 @@ records-tested l q =
 
 numbers-tested : (n i : ℕ) (p : Participant) → Participant.inRange n i p ≡ true → Participant.numbersInRange n i (Participant.stateNumber p) (Participant.heardOf p) ≡ true
 numbers-tested n i p q =
-    and-true _ _ (are-numbers Participant.stateNumber Participant.heardOf Participant.participantOf participant-numbers p)
+    and-true _ _ (are-numbers Participant.stateNumber Participant.heardOf Participant.ofNumbers participant-numbers p)
     (rw (participant-numbers .decoded p) q)
 
 coordinator-numbers-tested : (n : ℕ) (c : Coordinator) → Coordinator.inRange n c ≡ true → Coordinator.numbersInRange n (Coordinator.stateNumber c) (Coordinator.heardOf c) ≡ true
 coordinator-numbers-tested n c q =
-    and-true _ _ (are-numbers Coordinator.stateNumber Coordinator.heardOf Coordinator.coordinatorOf coordinator-numbers c)
+    and-true _ _ (are-numbers Coordinator.stateNumber Coordinator.heardOf Coordinator.ofNumbers coordinator-numbers c)
     (rw (coordinator-numbers .decoded c) q)
 
 fields-tested : (r : Release) → ReleaseInRange r → (i : ℕ) (b : Bool) → ltb i (r .n) ≡ b → participantInRange (r .n) i (fieldsOf r i) ≡ true

@@ -39,7 +39,7 @@ tailOf r =
 -- and back
 
 abbrev pub siteOf : ParticipantFields → Site
-siteOf f = record { participant = Participant.participantOf (f .state) (f .heard) }
+siteOf f = record { participant = Participant.ofNumbers (f .state) (f .heard) }
 
 abbrev pub pairOf : ParticipantFields → LogPair
 pairOf f = record { first = recordOf (f .first); last = recordOf (f .last) }
@@ -56,7 +56,7 @@ releaseOf t =
     record {
       n = t .n;
       votes = t .votes;
-      coordinator = Coordinator.coordinatorOf (t .state) (t .heard);
+      coordinator = Coordinator.ofNumbers (t .state) (t .heard);
       messages = t .messages;
       sites = tabulate places (λ i. siteOf (fieldsAt t i));
       store = record { logs = tabulate places (λ i. pairOf (fieldsAt t i)) };

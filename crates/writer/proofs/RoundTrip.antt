@@ -1,9 +1,10 @@
 -- Nothing is lost between the writer and the reader: the statements of specs/RoundTrip.antt. Assumes nothing.
-use mathlib.Core.Path.{_≡_, refl, sym, ap, subst, _∙_}
+use mathlib.Core.Path.{_≡_, refl, sym, ap, ap₂, subst, _∙_}
 use mathlib.Core.Bool.{true}
 use mathlib.Core.List.{List, [], _∷_, _++_, map, append-assoc}
 use Prim.Native.Nat.{ℕ, _+_, _-_, _≤_}
 use native.Mathlib.Omega.{arith}
+use native.Mathlib.Nat.{add-zero, zero-add}
 use lib.ListN.{length, take, drop}
 use lib.Seq.{sets, sets-eq, length-sets, length-take-le, take-at, drop-at}
 use Rattle.number.proofs.Lists.{sets-append}
@@ -11,7 +12,7 @@ use Rattle.kind.specs.Step.{AllInRange}
 use Rattle.writer.specs.Types.{Step, Header, Record, Before, Written}
 use Rattle.schedule.specs.Record.{headerRecord, stepRecord, headerInRange, recordLength, recordBytes, longest}
 use Rattle.schedule.specs.Reader.{readerAnswers}
-use Rattle.schedule.specs.Schedule.{stepsBytes}
+use Rattle.schedule.specs.Schedule.{stepsBytes, scheduleBytes}
 use Rattle.schedule.specs.RoundTrip.{mayFollow}
 use Rattle.writer.specs.RoundTrip.{leavesFor, ReadAfterWrite, WriteAfterRead, writtenInTurn, WrittenInTurn}
 use Rattle.schedule.proofs.Laws.{header-follows}
@@ -41,24 +42,29 @@ write-after-read bytes b before r l e buffer place near room =
 
 -- A whole schedule through the writer
 
+-- all of the records are taken, and their bytes stand from a place on
+abbrev AllWritten : List ℕ → ℕ → List Record → List ℕ → Type 0
+AllWritten buffer place rs bytes = writtenInTurn rs (Written.Done place) buffer ≡ (Written.Done (place + length bytes), sets buffer place bytes)
+
 -- one record, and then the others
 turn : (buffer : List ℕ) (place : ℕ) (before : Before) (r : Record) (rs : List Record) (rest : List ℕ) → mayFollow before r ≡ true
     → place + length (recordBytes r ++ rest) ≤ longest → place + length (recordBytes r ++ rest) ≤ length buffer
-    → ((buffer : List ℕ) → place + recordLength r + length rest ≤ length buffer → writtenInTurn buffer (place + recordLength r) rs ≡ sets buffer (place + recordLength r) rest)
-    → writtenInTurn buffer place (r ∷ rs) ≡ sets buffer place (recordBytes r ++ rest)
+    → ((buffer : List ℕ) → place + recordLength r + length rest ≤ length buffer → AllWritten buffer (place + recordLength r) rs rest)
+    → AllWritten buffer place (r ∷ rs) (recordBytes r ++ rest)
 turn buffer place before r rs rest q near room next =
     let size = front-length r rest in
-    let w = written buffer place before r q (omega arith) (omega arith) .1 in
+    let w = written buffer place before r q (omega arith) (omega arith) in
     let put : List ℕ = sets buffer place (recordBytes r) in
-    ap (λ b. writtenInTurn b (place + recordLength r) rs) w
+    let end : place + recordLength r + length rest ≡ place + length (recordBytes r ++ rest) = omega arith in
+    ap₂ (λ (x : Written) (b : List ℕ). writtenInTurn rs x b) (w .0) (w .1)
     ∙ next put (omega (arith, length-sets buffer place (recordBytes r)))
-    ∙ ap (λ n. sets put (place + n) rest) (sym (record-length r))
-    ∙ sym (sets-append buffer place (recordBytes r) rest)
+    ∙ ap₂ (λ (n : ℕ) (b : List ℕ). (Written.Done n, b)) end
+    (ap (λ n. sets put (place + n) rest) (sym (record-length r)) ∙ sym (sets-append buffer place (recordBytes r) rest))
 
 steps-in-turn : (h : Header) → headerInRange h ≡ true → (steps : List Step) → AllInRange (h .n) steps → (buffer : List ℕ) (place : ℕ)
     → place + length (stepsBytes steps) ≤ longest → place + length (stepsBytes steps) ≤ length buffer
-    → writtenInTurn buffer place (map stepRecord steps) ≡ sets buffer place (stepsBytes steps)
-steps-in-turn h g [] q buffer place near room = refl
+    → AllWritten buffer place (map stepRecord steps) (stepsBytes steps)
+steps-in-turn h g [] q buffer place near room = rw (add-zero place) refl
 steps-in-turn h g (s ∷ ss) q buffer place near room =
     let r : Record = stepRecord s in
     let size = front-length r (stepsBytes ss) in
@@ -67,5 +73,7 @@ steps-in-turn h g (s ∷ ss) q buffer place near room =
 
 pub written-in-turn : WrittenInTurn
 written-in-turn buffer h steps g q near room =
+    let bytes : List ℕ = scheduleBytes h steps in
     turn buffer 0 Before.Nothing (headerRecord h) (map stepRecord steps) (stepsBytes steps) (header-follows h g) (omega arith) (omega arith)
     (λ b enough. steps-in-turn h g steps q b (0 + recordLength (headerRecord h)) (omega (arith, front-length (headerRecord h) (stepsBytes steps))) enough)
+    ∙ ap (λ n. (Written.Done n, sets buffer 0 bytes)) (zero-add (length bytes))

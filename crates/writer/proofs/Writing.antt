@@ -13,7 +13,7 @@ use Rattle.kind.specs.Kind.{kindNumber, kindOf, isHeader, room}
 use Rattle.kind.specs.Step.{numbersInRange}
 use Rattle.kind.proofs.Numbers.{kind-numbers, more-tested, room-most}
 use Rattle.writer.specs.Types.{Kind, Record, Before, Written}
-use Rattle.schedule.specs.Record.{recordOf, recordHeader, headerInRange, recordInRange, recordLength, recordBytes, longest}
+use Rattle.schedule.specs.Record.{recordByNumbers, recordHeader, headerInRange, recordInRange, recordLength, recordBytes, longest}
 use Rattle.schedule.specs.Reader.{isPlaced, inRangeAfter}
 use Rattle.writer.specs.Writer.{isWritable, roomAnswer, recordAnswer, leaves}
 use Rattle.schedule.specs.RoundTrip.{mayFollow}
@@ -43,7 +43,7 @@ written buffer place before r q near room = (answered, ap (leaves buffer place r
     k = r .kind
 
     r′ : Record
-    r′ = recordOf (kindNumber k) (r .first) (r .second)
+    r′ = recordByNumbers (kindNumber k) (r .first) (r .second)
 
     same : r′ ≡ r
     same = ap (λ (x : Kind). recordWith x (r .first) (r .second)) (kind-numbers .decoded k)

@@ -38,14 +38,17 @@ WriteAfterRead =
 
 -- A whole schedule
 
--- the writer puts the bytes of a header and its steps, record by record, each at the place after the one before
+-- the writer's last answer and what it leaves, after the answer so far: each record is put at the place that the answer before hands over, and a
+-- refusal ends it
+abbrev pub writtenInTurn : List Record → Written → List ℕ → Written × List ℕ
+writtenInTurn [] x buffer = (x, buffer)
+writtenInTurn (r ∷ rs) (Written.Done place) buffer = writtenInTurn rs (answersFor (length buffer) place r) (leavesFor buffer place r)
+writtenInTurn (r ∷ rs) (Written.Refused k v) buffer = (Written.Refused k v, buffer)
 
-abbrev pub writtenInTurn : List ℕ → ℕ → List Record → List ℕ
-writtenInTurn buffer place [] = buffer
-writtenInTurn buffer place (r ∷ rs) = writtenInTurn (leavesFor buffer place r) (place + recordLength r) rs
-
+-- a header and its steps, from place 0 on, are all taken, and their bytes stand in the buffer
 abbrev pub WrittenInTurn : Type 0
 WrittenInTurn =
     (buffer : List ℕ) (h : Header) (steps : List Step) → headerInRange h ≡ true → AllInRange (h .n) steps
     → length (scheduleBytes h steps) ≤ longest → length (scheduleBytes h steps) ≤ length buffer
-    → writtenInTurn buffer 0 (headerRecord h ∷ map stepRecord steps) ≡ sets buffer 0 (scheduleBytes h steps)
+    → writtenInTurn (headerRecord h ∷ map stepRecord steps) (Written.Done 0) buffer
+    ≡ (Written.Done (length (scheduleBytes h steps)), sets buffer 0 (scheduleBytes h steps))

@@ -8,7 +8,7 @@ use lib.Seq.{sets}
 use Rattle.number.specs.Refusal.{Handed, hands, accepted, unknownKind, outOfRange, tooShort}
 use Rattle.kind.specs.Kind.{isKind, room}
 use Rattle.writer.specs.Types.{Kind, Record, Written}
-use Rattle.schedule.specs.Record.{recordOf, recordInRange, recordLength, recordBytes, longest}
+use Rattle.schedule.specs.Record.{recordByNumbers, recordInRange, recordLength, recordBytes, longest}
 
 -- participants and logs 1 to 32, parties 0 to 32: the most that a header has room for; a header by its own kind
 abbrev pub isWritable : ℕ → Record → Bool
@@ -23,12 +23,16 @@ recordAnswer room place r = cond (isWritable place r) (roomAnswer room (place + 
 
 -- what the writer answers, with a buffer of `room` bytes
 abbrev pub writerAnswers : ℕ → ℕ → ℕ → ℕ → ℕ → Written
-writerAnswers room place k a b = cond (isKind k) (recordAnswer room place (recordOf k a b)) (Written.Refused unknownKind place)
+writerAnswers room place k a b = cond (isKind k) (recordAnswer room place (recordByNumbers k a b)) (Written.Refused unknownKind place)
 
 -- what each case of the answer hands over: 0 and the place after the record; the refusal's number with the place given, or the length needed
 abbrev pub writtenHands : Written → Handed
 writtenHands (Written.Done end) = hands accepted end
 writtenHands (Written.Refused k v) = hands k v
+
+-- what the answer hands over
+abbrev pub writerHands : ℕ → ℕ → ℕ → ℕ → ℕ → Handed
+writerHands room place k a b = writtenHands (writerAnswers room place k a b)
 
 -- what it leaves in the buffer
 
@@ -37,4 +41,4 @@ leaves buffer place r (Written.Done end) = sets buffer place (recordBytes r)
 leaves buffer place r (Written.Refused k v) = buffer
 
 abbrev pub writerLeaves : List ℕ → ℕ → ℕ → ℕ → ℕ → List ℕ
-writerLeaves buffer place k a b = leaves buffer place (recordOf k a b) (writerAnswers (length buffer) place k a b)
+writerLeaves buffer place k a b = leaves buffer place (recordByNumbers k a b) (writerAnswers (length buffer) place k a b)

@@ -11,7 +11,7 @@ ghost use Prim.Native.Nat.{_+_, _≤_};
 ghost use lib.ListN.{length};
 ghost use lib.Seq.{sets};
 ghost use Rattle.schedule.specs.Record.{recordLength, recordBytes};
-ghost use Rattle.writer.specs.Writer.{isWritable, recordAnswer, leaves, writerAnswers, writerLeaves};
+ghost use Rattle.writer.specs.Writer.{isWritable, recordAnswer, leaves, writerAnswers, writtenHands, writerHands, writerLeaves};
 
 // The place after the record, or a refusal's number with the place given or the length needed.
 pub enum Written {
@@ -61,6 +61,7 @@ fn write_kind(buffer: &mut [u8], place: usize, r: Record) -> Written
 // The record of a kind and the two numbers of its body, 0 where it has none, is put at the place.
 pub fn write_record(buffer: &mut [u8], place: usize, kind: u32, first: u32, second: u32) -> Written
     ensures { λ x. ⌜ (x ≡ writerAnswers (length (now (buffer .entry))) place kind first second)
+        × (writtenHands x ≡ writerHands (length (now (buffer .entry))) place kind first second)
         × (now (buffer .exit) ≡ writerLeaves (now (buffer .entry)) place kind first second) ⌝ }
 {
     let known = Kind::of(kind);

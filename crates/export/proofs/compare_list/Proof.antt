@@ -1,6 +1,5 @@
 -- `export::compare_list` meets its contract, case by case. Assumes nothing.
 use mathlib.Core.Path.{ap, _∙_}
-use Rattle.writer.specs.Writer.{writtenHands}
 use Rattle.export.specs.Packed.{packed}
 use borrow.Author.Needs.{needs}
 use Rattle.export.proofs.compare_list.Statement.{statement}
@@ -13,4 +12,4 @@ compare-list-spec =
     (λ c κs. search needs)
     (λ c κs. search needs)
     (λ c. search needs)
-    (λ c. (c .pack-written .ensures ∙ ap (λ w. packed (writtenHands w)) (c .before .before .before .list .ensures .0), c .before .before .before .list .ensures .1)))
+    (λ c. (c .pack-written .ensures ∙ ap packed (c .before .before .before .list .ensures .1), c .before .before .before .list .ensures .2)))

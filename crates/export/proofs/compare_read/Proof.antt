@@ -10,4 +10,4 @@ compare-read-spec =
     (λ c κs. search needs)
     (λ c κs. search needs)
     (λ c κs. search needs)
-    (λ c. simp (c .pack-read .ensures, c .before .read-record .ensures, c .before .before .before2 .ensures)))
+    (λ c. simp (c .pack-read .ensures, c .before .read-record .ensures .0, c .before .before .before2 .ensures)))

@@ -12,7 +12,7 @@ use Rattle.frame.proofs.mark_frames.Tie as tie
 
 abbrev Inv-loop : tie.InvT-loop
 Inv-loop input report₀ text₀ used₀ filled₀ report text used filled =
-    (used ≤ length input) × (filled ≤ length text) × (length report ≡ length report₀) × (length text ≡ length text₀) × Marking input text₀ used text filled
+    (used ≤ length input) × (filled ≤ length text) × (length report ≡ length report₀) × (length text ≡ length text₀) × Marking input text₀ report₀ used filled text report
 
 abbrev μ-loop : tie.MeasureT-loop
 μ-loop input report₀ text₀ used₀ filled₀ report text used filled = length input - used
@@ -31,7 +31,7 @@ mark-frames-spec =
     (tie.spec
     Inv-loop
     μ-loop
-    (λ c. (search needs, search needs, refl, refl, mark-none (c .before .before .before .args .input .now) (c .before .before .before .args .text .now)))
+    (λ c. (search needs, search needs, refl, refl, mark-none (c .before .before .before .args .input .now) (c .before .before .before .args .text .now) (c .before .before .before .args .report .now)))
     (λ c. search needs)
     (λ c. search needs)
     (λ c. search needs)
@@ -41,7 +41,7 @@ mark-frames-spec =
     (λ c. search needs)
     (λ c. c .before .before .before .before .before .loop .inv .2)
     (λ c. c .before .before .before .before .before .loop .inv .3)
-    (λ c. let inv = c .before .before .before .before .before .loop .inv in marked (inv .4) (inv .0) (inv .1) (inv .3) (inl (found-in (c .before .before .before .before .before .before .before .before .before .args .input .now) (c .before .before .before .before .before .loop .used) (c .enum-told .given .1) (c .before .before .first-frame .ensures))))
+    (λ c. let inv = c .before .before .before .before .before .loop .inv in marked (inv .4) (inv .0) (inv .1) (inl (found-in (c .before .before .before .before .before .before .before .before .before .args .input .now) (c .before .before .before .before .before .loop .used) (c .enum-told .given .1) (c .before .before .first-frame .ensures))))
     (λ c. omega (arith, within (c .before)))
     (λ c. omega (arith, within (c .before)))
     (λ c. search needs)
@@ -49,7 +49,7 @@ mark-frames-spec =
     (λ c. omega (arith, within (c .before)))
     (λ c κs. let inv = c .before .before .before .before .before .before .before .before .before .loop .inv in (omega (arith, inv .2, c .before .before .before .before .before .before .before .before .before .before .before .before .before .pre), omega (arith, c .before .before .before .before .before .before .before .before .loop-test .taken)))
     (λ c. omega (arith, within (c .before .before .before .before .before .before .before .before .before)))
-    (λ c. let inv = c .before .before .before .before .before .before .before .before .before .before .before .before .before .before .loop .inv in let put = c .before .before .before .before .put-line in (omega (arith, within (c .before .before .before .before .before .before .before .before .before)), omega (arith, put .ensures .1, put .kept), put .kept .1 .0 ∙ inv .2, put .kept .1 .1 .0 ∙ inv .3, mark-next (c .before .before .before .before .before .before .before .before .before .before .before .before .before .before .before .before .before .before .args .input .now) (c .before .before .before .before .before .before .before .before .before .before .before .before .before .before .loop .used) (c .before .before .before .before .before .before .before .before .before .size .given .0 .0) (whole (c .before .before .before .before .before .before .before .before .before)) (inv .4) (put .ensures .0)))
+    (λ c. let inv = c .before .before .before .before .before .before .before .before .before .before .before .before .before .before .loop .inv in let put = c .before .before .before .before .put-line in (omega (arith, within (c .before .before .before .before .before .before .before .before .before)), omega (arith, put .ensures .1, put .kept), put .kept .1 .0 ∙ inv .2, put .kept .1 .1 .0 ∙ inv .3, mark-next (c .before .before .before .before .before .before .before .before .before .before .before .before .before .before .before .before .before .before .args .input .now) (c .before .before .before .before .before .before .before .before .before .before .before .before .before .before .loop .used) (c .before .before .before .before .before .before .before .before .before .size .given .0 .0) (whole (c .before .before .before .before .before .before .before .before .before)) (inv .4) (omega (arith, inv .3, c .before .before .before .before .before .before .before .before .before .before .before .before .before .loop-test .taken)) (put .ensures .0) (put .ensures .2)))
     (λ c. c .before .loop .inv .2)
     (λ c. c .before .loop .inv .3)
-    (λ c. let inv = c .before .loop .inv in marked (inv .4) (inv .0) (inv .1) (inv .3) (inr (omega (arith, c .loop-test .left)))))
+    (λ c. let inv = c .before .loop .inv in marked (inv .4) (inv .0) (inv .1) (inr (omega (arith, inv .3, c .loop-test .left)))))

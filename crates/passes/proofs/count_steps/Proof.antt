@@ -5,11 +5,12 @@ use native.Mathlib.Omega.{arith}
 use native.Mathlib.Nat.{add-zero}
 use lib.ListN.{length, drop}
 use borrow.Author.Needs.{needs}
-use Rattle.schedule.specs.Reader.{readerAnswers}
-use Rattle.passes.specs.Types.{Before, Validated}
-use Rattle.passes.specs.Pass.{readingFrom, validatedAfter, validated, refusedAt}
-use Rattle.passes.proofs.Reading.{First, tail-part, read-first, read-refused, none-left, count-more}
 use Rattle.schedule.specs.Record.{recordStep}
+use Rattle.schedule.specs.Reader.{readerAnswers, readHands}
+use Rattle.schedule.proofs.Records.{read-yielded}
+use Rattle.passes.specs.Types.{Before, Read, Validated}
+use Rattle.passes.specs.Pass.{readingFrom, validatedAfter, validated}
+use Rattle.passes.proofs.Reading.{First, tail-part, read-first, read-refused, none-left, count-more}
 use Rattle.passes.proofs.count_steps.Statement.{statement}
 use Rattle.passes.proofs.count_steps.Tie as tie
 
@@ -30,15 +31,19 @@ read-here c =
     let args = at .before .before .args in
     c .read-step .ensures ∙ ap (λ l. readerAnswers l (Before.Header (args .header))) (tail-part (args .schedule .now) (at .loop .at))
 
-first : (c : tie.After-found Inv-loop μ-loop) →
-    let at = c .before .before .before .before .before in
+-- the record that was taken apart
+first : (c : tie.After-length Inv-loop μ-loop) →
+    let at = c .before .before .before .before .before .before .before in
     let args = at .before .before .args in
-    First (args .schedule .now) (args .header) (at .loop .at) (c .found .given .0 .0) (c .found .given .0 .1 .0)
+    First (args .schedule .now) (args .header) (at .loop .at) (c .before .before .found .given .0 .0) (c .length .result)
 first c =
-    let at = c .before .before .before .before .before in
+    let at = c .before .before .before .before .before .before .before in
     let args = at .before .before .args in
-    read-first (args .schedule .now) (args .header) (at .loop .at) (c .before .before .before .before .loop-test .taken) (c .found .given .0 .0) (c .found .given .0 .1 .0)
-    (sym (read-here (c .before .before)) ∙ c .found .given .1)
+    let found = c .before .before .found .given in
+    let e = sym (read-here (c .before .before .before .before)) ∙ found .1 in
+    let size = read-yielded (drop (at .loop .at) (args .schedule .now)) (Before.Header (args .header)) (found .0 .0) (found .0 .1 .0) e .size in
+    read-first (args .schedule .now) (args .header) (at .loop .at) (c .before .before .before .before .before .before .loop-test .taken) (found .0 .0) (c .length .result)
+    (e ∙ ap (Read.Record (found .0 .0)) (size ∙ sym (c .length .ensures)))
 
 pub count-steps-spec : {M : Type 1} → statement M
 count-steps-spec =
@@ -54,9 +59,10 @@ count-steps-spec =
     (λ c. search needs)
     (λ c. search needs)
     (λ c κs. search needs)
-    (λ c. let at = c .before .before .before .before .before .before in let args = at .before .before .args in let told = c .before .enum-told .given in c .refused-at .ensures ∙ ap (refusedAt (at .loop .at)) (told .1) ∙ sym (ap (validatedAfter (at .loop .steps)) (read-refused (args .schedule .now) (args .header) (at .loop .at) (c .before .before .before .before .before .loop-test .taken) (told .0 .0) (told .0 .1 .0) (sym (read-here (c .before .before .before)) ∙ told .1))) ∙ at .loop .inv .2)
-    (λ c. omega (arith, first (c .before) .within))
+    (λ c. let at = c .before .before .before .before .before .before in let args = at .before .before .args in let told = c .before .enum-told .given in ap (λ k. Validated.Refused k (at .loop .at)) (c .number .ensures ∙ ap (λ (x : Read). readHands x .number) (told .1)) ∙ sym (ap (validatedAfter (at .loop .steps)) (read-refused (args .schedule .now) (args .header) (at .loop .at) (c .before .before .before .before .before .loop-test .taken) (told .0 .0) (told .0 .1 .0) (sym (read-here (c .before .before .before)) ∙ told .1))) ∙ at .loop .inv .2)
+    (λ c κs. search needs)
+    (λ c. omega (arith, first c .within))
     (λ c. search needs)
-    (λ c. omega (arith, first (c .before) .some, first (c .before) .within))
-    (λ c. let at = c .before .before .before .before .before .before in let args = at .before .before .args in let x = first (c .before) in let rest = readingFrom (args .schedule .now) (args .header) (at .loop .at + c .before .found .given .0 .1 .0) in (x .within, omega (arith, x .some), sym (count-more (at .loop .steps) (recordStep (c .before .found .given .0 .0)) rest) ∙ ap (validatedAfter (at .loop .steps)) (sym (x .first)) ∙ at .loop .inv .2))
+    (λ c. omega (arith, first c .some, first c .within))
+    (λ c. let at = c .before .before .before .before .before .before .before in let args = at .before .before .args in let x = first c in let rest = readingFrom (args .schedule .now) (args .header) (at .loop .at + c .length .result) in (x .within, omega (arith, x .some), sym (count-more (at .loop .steps) (recordStep (c .before .before .found .given .0 .0)) rest) ∙ ap (validatedAfter (at .loop .steps)) (sym (x .first)) ∙ at .loop .inv .2))
     (λ c. let at = c .before in let args = at .before .before .args in ap (Validated.Steps (args .header)) (sym (add-zero (at .loop .steps))) ∙ sym (ap (validatedAfter (at .loop .steps)) (none-left (args .schedule .now) (args .header) (at .loop .at) (c .loop-test .left))) ∙ at .loop .inv .2))

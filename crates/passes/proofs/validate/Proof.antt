@@ -17,7 +17,7 @@ validate-spec =
     (λ c. search needs)
     (λ c. search needs)
     (λ c κs. search needs)
-    (λ c. let told = c .before .enum-told .given in let read = c .before .before .before .read-header .ensures in let here = refused-at-first (c .before .before .before .before .before .before .args .schedule .now) Before.Nothing (told .0 .0) (told .0 .1 .0) (sym read ∙ told .1) in simp (le-ltb _ _ (c .before .before .before .before .if1 .left), c .refused-at .ensures, ← read, told .1, here))
+    (λ c. let told = c .before .enum-told .given in let read = c .before .before .before .read-header .ensures in let here = refused-at-first (c .before .before .before .before .before .before .args .schedule .now) Before.Nothing (told .0 .0) (told .0 .1 .0) (sym read ∙ told .1) in simp (le-ltb _ _ (c .before .before .before .before .if1 .left), c .number .ensures, ← read, told .1, here))
     (λ c κs. search needs)
     (λ c κs. let x = header-read (c .before .before .before .before .before .before .before .args .schedule .now) (c .before .before .found .given .0 .0) (c .before .before .found .given .0 .1 .0) (sym (c .before .before .before .before .read-header .ensures) ∙ c .before .before .found .given .1) in (x, c .before .before .before .before .before .if1 .left))
     (λ c. simp (le-ltb _ _ (c .before .before .before .before .before .before .if1 .left), ← c .before .before .before .before .before .read-header .ensures, c .before .before .before .found .given .1, ← c .before .header .ensures) (c .count-steps .ensures)))

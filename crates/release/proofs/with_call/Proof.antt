@@ -12,7 +12,7 @@ use Rattle.rules.proofs.Bounds.{bounds}
 use Rattle.kind.proofs.Step as declared
 use Rattle.call.proofs.Calling.{numbered-log}
 use Rattle.release.specs.Types.{Step}
-use Rattle.release.specs.Call.{makesCall}
+use Rattle.rules.specs.OneParty.{makesCall}
 use Rattle.release.proofs.with_call.Statement.{statement}
 use Rattle.release.proofs.with_call.Tie as tie
 

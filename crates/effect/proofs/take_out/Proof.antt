@@ -1,12 +1,12 @@
--- `effect::drop` meets its contract, case by case. Assumes nothing.
+-- `effect::take_out` meets its contract, case by case. Assumes nothing.
 use Rattle.mask.specs.Mask.{remove}
 use Rattle.effect.proofs.Leading.{masks}
 use borrow.Author.Needs.{needs}
-use Rattle.effect.proofs.drop.Statement.{statement}
-use Rattle.effect.proofs.drop.Tie as tie
+use Rattle.effect.proofs.take_out.Statement.{statement}
+use Rattle.effect.proofs.take_out.Tie as tie
 
-pub drop-spec : {M : Type 1} → statement M
-drop-spec =
+pub take-out-spec : {M : Type 1} → statement M
+take-out-spec =
     tie.close
     (tie.spec
     (λ c κs. search needs)
