@@ -1,31 +1,29 @@
 //! Group 4, the run and the listing with lent buffers of every length, and the program `mark`; group
-//! 14 is the same for wide schedules.
+//! 14 is the same for wide schedules; group 25 is the move, and the run and the listing from a tail.
 
 use crate::difference::{schedule_words, Difference};
 use crate::figures::Numbers;
 use crate::jobs;
-use crate::lent::{lend, packed, Lent};
-use crate::proved;
+use crate::lending::Entry;
 use crate::random::Random;
 use crate::reduce;
 use crate::replay::Programs;
-use crate::schedules::{closed_at_the_end, group, random_schedule, schedule_of_length, LIMIT};
+use crate::rests::{any_rest, any_tail};
+use crate::schedules::{
+    closed_at_the_end, group, random_schedule, rest_of_length, schedule_of_length, LIMIT,
+};
+use crate::states::reached;
+use crate::tail_figures::TailFigures;
 use crate::whole::any_damaged;
-use second::{Form, Refusal};
+use second::{Form, Tail};
 use std::fmt;
 
 /// How many schedules a job has, and for how many of them `mark` is run.
 const BATCH: usize = 100;
 const MARKED: usize = 6;
 
-/// Buffers up to this length are lent in every length.
-const SHORT: usize = 700;
-
-#[derive(Clone, Copy)]
-enum Entry {
-    Run,
-    Listing,
-}
+/// How many tails a job has.
+const TAILS: usize = 25;
 
 #[derive(Clone, Copy, Default)]
 pub struct BufferFigures {
@@ -69,8 +67,8 @@ pub fn compare(
         for at in 0..BATCH {
             let schedule = any_schedule(&mut random, form, at);
             figures.schedules += 1;
-            compare_lengths(Entry::Run, &schedule, &mut figures.run)?;
-            compare_lengths(Entry::Listing, &schedule, &mut figures.listing)?;
+            Entry::Run(&schedule).compare_lengths(&mut figures.run)?;
+            Entry::Listing(&schedule).compare_lengths(&mut figures.listing)?;
             if at < MARKED {
                 compare_mark(programs, &schedule)?;
                 figures.marked += 1;
@@ -109,96 +107,41 @@ fn any_schedule(random: &mut Random, form: Form, at: usize) -> Vec<u8> {
     }
 }
 
-fn compare_lengths(entry: Entry, schedule: &[u8], numbers: &mut Numbers) -> Result<(), Difference> {
-    for length in lengths(entry, schedule) {
-        let (proved, second) = both(entry, schedule, length);
-        if proved != second {
-            return Err(reduced(entry, schedule));
+/// Compares the move, and the run and the listing from a tail, on at least `cases` tails each.
+pub fn compare_from_tails(seed: u64, cases: usize) -> Result<TailFigures, Difference> {
+    let done = jobs::run_all(cases.div_ceil(TAILS), |job| {
+        let mut random = Random::new(seed, 25, job);
+        let mut figures = TailFigures::default();
+        for at in 0..TAILS {
+            let mut narrow = reached(&mut random, Form::Narrow).narrow_bytes();
+            let tail = any_tail(&mut random);
+            let rest = rest_of_any_length(&mut random, &tail, at);
+            let mut wide = tail.wide_bytes();
+            if at % 8 == 7 {
+                narrow[random.place(59)] = random.byte();
+                wide[random.place(320)] = random.byte();
+            }
+            figures.agreed_lengths(Entry::Move(&narrow))?;
+            figures.agreed_lengths(Entry::RunFrom(&wide, &rest))?;
+            figures.agreed_lengths(Entry::ListingFrom(&wide, &rest))?;
         }
-        numbers.note(second.number());
-    }
-    Ok(())
+        Ok(figures)
+    })?;
+    Ok(TailFigures::sum(&done))
 }
 
-fn both(entry: Entry, schedule: &[u8], length: usize) -> (Lent, Lent) {
-    let proved = lend(length, |lent| match entry {
-        Entry::Run => proved::run(schedule, lent),
-        Entry::Listing => proved::list(schedule, lent),
-    });
-    let second = lend(length, |lent| match entry {
-        Entry::Run => packed(second::run(schedule, lent)),
-        Entry::Listing => packed(list(schedule, lent)),
-    });
-    (proved, second)
-}
-
-/// The second program's listing, put into a lent buffer.
-fn list(schedule: &[u8], text: &mut [u8]) -> Result<usize, Refusal> {
-    let listing = second::listing(schedule);
-    let value = listing.len();
-    let lent = text.get_mut(..value);
-    let lent = lent.ok_or(Refusal { number: 6, value })?;
-    lent.copy_from_slice(listing.as_bytes());
-    Ok(value)
-}
-
-/// The length of the tail by the schedule's first byte, whether or not it is accepted.
-fn tail_length(schedule: &[u8]) -> usize {
-    let kind = schedule.first().copied().unwrap_or(0);
-    Form::under(u32::from(kind)).tail_length()
-}
-
-/// The length that is needed; a refused schedule needs none, and its refusal must not depend on the
-/// buffer.
-fn needed(entry: Entry, schedule: &[u8]) -> usize {
-    match entry {
-        Entry::Run => match second::run(schedule, &mut []) {
-            Err(Refusal { number: 6, value }) => value,
-            _ => tail_length(schedule) + 1,
-        },
-        Entry::Listing => second::listing(schedule).len(),
-    }
-}
-
-/// Every length up to the needed one and two more; a choice of them where that is long.
-fn lengths(entry: Entry, schedule: &[u8]) -> Vec<usize> {
-    let needed = needed(entry, schedule);
-    if needed <= SHORT {
-        return (0..=needed + 2).collect();
-    }
-    let tail = tail_length(schedule);
-    let mut choice = vec![0, 1, 3, 255, 256, needed / 2];
-    choice.extend(tail - 1..=tail + 2);
-    choice.extend(needed - 3..=needed + 2);
-    choice.push(needed + 40_000);
-    choice
-}
-
-fn first_differing_length(entry: Entry, schedule: &[u8]) -> Option<usize> {
-    let mut lengths = lengths(entry, schedule).into_iter();
-    lengths.find(|length| {
-        let (proved, second) = both(entry, schedule, *length);
-        proved != second
-    })
-}
-
-fn reduced(entry: Entry, schedule: &[u8]) -> Difference {
-    let smallest = reduce::schedule(schedule, |bytes| {
-        first_differing_length(entry, bytes).is_some()
-    });
-    let length = first_differing_length(entry, &smallest).unwrap_or(0);
-    let (proved, second) = both(entry, &smallest, length);
-    let name = match entry {
-        Entry::Run => "run",
-        Entry::Listing => "listing",
-    };
-    Difference {
-        input: format!(
-            "{name} with a buffer of {length} bytes, schedule of {}",
-            schedule_words(&smallest)
-        ),
-        proved: proved.words(),
-        second: second.words(),
+/// Mostly a short rest, and one about the greatest length in each job.
+fn rest_of_any_length(random: &mut Random, tail: &Tail, at: usize) -> Vec<u8> {
+    match at {
+        0 => {
+            let length = LIMIT - 1 + random.place(3);
+            rest_of_length(random, tail, length)
+        }
+        1 => {
+            let length = random.between(60, 600) as usize;
+            rest_of_length(random, tail, length)
+        }
+        _ => any_rest(random, tail),
     }
 }
 

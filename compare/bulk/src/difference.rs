@@ -1,6 +1,7 @@
 //! A difference between the two sides, in words: the input and both answers.
 
 use crate::schedules::records;
+use second::Form;
 use std::fmt;
 
 /// Answers up to this many characters are shown in full.
@@ -12,6 +13,8 @@ const TOLD: usize = 150;
 
 /// Equal bytes in a row up to this many are written one by one.
 const MANY: usize = 100;
+/// So are equal groups of a tail's bytes.
+const FEW: usize = 2;
 
 pub struct Difference {
     pub input: String,
@@ -65,6 +68,31 @@ pub fn schedule_words(schedule: &[u8]) -> String {
         text.extend(records(schedule).map(|record| format!("  {}\n", record_words(record))));
     }
     text
+}
+
+/// A tail of this form in hexadecimal, in groups: n and votes, the coordinator, the messages, each
+/// participant, the counts of calls, and what lies beyond. One too short ends earlier.
+pub fn tail_words(form: Form, bytes: &[u8]) -> String {
+    let width = form.mask_bytes();
+    let participants = form.most_participants() as usize;
+    let mut lengths = vec![1 + width, 1 + width, 5 * width];
+    lengths.resize(3 + participants, 3 + width);
+    lengths.push(2 * (participants + 1));
+    let mut rest = bytes;
+    let mut groups = Vec::new();
+    for length in lengths {
+        let (group, after) = rest.split_at(length.min(rest.len()));
+        groups.push(hexadecimal(group));
+        rest = after;
+    }
+    groups.push(hexadecimal(rest));
+    groups.retain(|group| !group.is_empty());
+    let runs = groups.chunk_by(|one, next| one == next);
+    let words = runs.map(|run| match run.len() {
+        0..=FEW => run.join(" | "),
+        many => format!("({many} times {})", run[0]),
+    });
+    words.collect::<Vec<String>>().join(" | ")
 }
 
 fn record_words(record: &[u8]) -> String {

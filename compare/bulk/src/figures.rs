@@ -6,7 +6,7 @@ use std::fmt;
 
 /// How often each refusal number was answered; 0 is no refusal.
 #[derive(Clone, Copy, Default)]
-pub struct Numbers([u64; 10]);
+pub struct Numbers([u64; 11]);
 
 impl Numbers {
     pub fn note(&mut self, number: u32) {
@@ -57,6 +57,10 @@ impl ReportBytes {
 
     pub fn add(&mut self, other: &ReportBytes) {
         add(&mut self.0, &other.0);
+    }
+
+    pub fn total(&self) -> u64 {
+        self.0.iter().sum()
     }
 }
 

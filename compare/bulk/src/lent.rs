@@ -19,6 +19,14 @@ impl Lent {
         (self.answer >> 32) as u32
     }
 
+    /// The bytes that the entry says it has written: none where it refused.
+    pub fn written(&self) -> &[u8] {
+        match self.number() {
+            0 => &self.bytes[..self.answer as usize],
+            _ => &[],
+        }
+    }
+
     pub fn words(&self) -> String {
         let lent = self.bytes.len() - BEYOND;
         format!(

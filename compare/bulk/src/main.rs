@@ -5,12 +5,16 @@
 #![deny(unsafe_code)]
 
 mod buffers;
+mod changes;
+mod cuts;
 mod difference;
 mod entries;
+mod fields;
 mod figures;
 mod frames;
 mod host;
 mod jobs;
+mod lending;
 mod lent;
 mod lines;
 #[allow(unsafe_code)]
@@ -18,10 +22,14 @@ mod proved;
 mod random;
 mod reduce;
 mod replay;
+mod rests;
 mod schedules;
 mod states;
 mod steps;
+mod tail_figures;
+mod tails;
 mod terminations;
+mod times;
 mod whole;
 
 use difference::Difference;
@@ -31,7 +39,7 @@ use std::env;
 use std::fmt::Display;
 use std::process::ExitCode;
 
-const USAGE: &str = "usage: bulk quick | bulk long CASES [SEED] | \
+const USAGE: &str = "usage: bulk quick | bulk long CASES [SEED] | bulk times ROUNDS | \
     bulk frames short|longest|terminations|short-wide|terminations-wide";
 const SEED: u64 = 20_260_101;
 /// How many random schedules the quick form has.
@@ -39,10 +47,10 @@ const QUICK: usize = 300_000;
 
 fn main() -> ExitCode {
     let words: Vec<String> = env::args().skip(1).collect();
-    if let [form, job] = &words[..] {
-        if form == "frames" {
-            return write_frames(job);
-        }
+    match words.iter().map(String::as_str).collect::<Vec<&str>>()[..] {
+        ["frames", job] => return write_frames(job),
+        ["times", rounds] => return print_times(rounds),
+        _ => (),
     }
     let Some((cases, seed)) = asked(&words) else {
         eprintln!("{USAGE}");
@@ -79,6 +87,20 @@ fn write_frames(job: &str) -> ExitCode {
     }
 }
 
+/// The times of the entries that no program runs in a loop.
+fn print_times(rounds: &str) -> ExitCode {
+    match rounds.parse() {
+        Ok(rounds) if rounds > 0 => {
+            times::print(rounds);
+            ExitCode::SUCCESS
+        }
+        _ => {
+            eprintln!("{USAGE}");
+            ExitCode::from(2)
+        }
+    }
+}
+
 /// How many random schedules are asked for, and the seed.
 fn asked(words: &[String]) -> Option<(usize, u64)> {
     let words: Vec<&str> = words.iter().map(String::as_str).collect();
@@ -97,7 +119,8 @@ type Compared = Result<(u64, u64), (&'static str, Difference)>;
 fn compare(cases: usize, seed: u64) -> Compared {
     let narrow = compare_narrow(cases, seed)?;
     let wide = compare_wide(cases / 3, seed)?;
-    Ok((narrow.0 + wide.0, narrow.1 + wide.1))
+    let moves = compare_moves(cases, seed)?;
+    Ok((narrow.0 + wide.0 + moves.0, narrow.1 + wide.1 + moves.1))
 }
 
 /// The groups of narrow schedules, and of the entries that know no header.
@@ -137,6 +160,20 @@ fn compare_wide(cases: usize, seed: u64) -> Compared {
     let steps = shown("17, the single step of wide states", steps)?;
     let schedules = random.schedules() + every.schedules() + damaged.schedules();
     Ok((schedules, buffers.calls() + steps.calls()))
+}
+
+/// The groups of moved tails and of runs from a tail.
+fn compare_moves(cases: usize, seed: u64) -> Compared {
+    let cuts = shown("21, cuts of schedules", cuts::compare(seed, cases / 100))?;
+    let damaged = tails::damaged(seed, cases / 1_000);
+    let damaged = shown("22, damaged tails", damaged)?;
+    let lengths = tails::of_other_lengths(seed, cases / 6_000);
+    let lengths = shown("23, tails of other lengths", lengths)?;
+    let rests = shown("24, rests of steps", rests::compare(seed, cases / 500))?;
+    let buffers = buffers::compare_from_tails(seed, cases / 2_000);
+    let buffers = shown("25, moves and runs from a tail into lent buffers", buffers)?;
+    let tails = [&damaged, &lengths, &rests, &buffers].map(|figures| figures.calls());
+    Ok((cuts.schedules(), cuts.calls() + tails.iter().sum::<u64>()))
 }
 
 /// Prints the group's figures, or names the group that has the difference.

@@ -18,6 +18,23 @@ extern "C" {
     ) -> u32;
     fn compare_run(bytes: *const u8, length: usize, report: *mut u8, report_len: usize) -> u64;
     fn compare_list(bytes: *const u8, length: usize, text: *mut u8, text_len: usize) -> u64;
+    fn compare_move(tail: *const u8, tail_len: usize, wide: *mut u8, wide_len: usize) -> u64;
+    fn compare_run_from(
+        tail: *const u8,
+        tail_len: usize,
+        steps: *const u8,
+        steps_len: usize,
+        report: *mut u8,
+        report_len: usize,
+    ) -> u64;
+    fn compare_list_from(
+        tail: *const u8,
+        tail_len: usize,
+        steps: *const u8,
+        steps_len: usize,
+        text: *mut u8,
+        text_len: usize,
+    ) -> u64;
     fn compare_write(
         buffer: *mut u8,
         buffer_len: usize,
@@ -57,6 +74,31 @@ pub fn run(schedule: &[u8], report: &mut [u8]) -> u64 {
 pub fn list(schedule: &[u8], text: &mut [u8]) -> u64 {
     let (bytes, length) = (schedule.as_ptr(), schedule.len());
     unsafe { compare_list(bytes, length, text.as_mut_ptr(), text.len()) }
+}
+
+pub fn move_tail(tail: &[u8], wide: &mut [u8]) -> u64 {
+    unsafe { compare_move(tail.as_ptr(), tail.len(), wide.as_mut_ptr(), wide.len()) }
+}
+
+pub fn run_from(tail: &[u8], steps: &[u8], report: &mut [u8]) -> u64 {
+    let (bytes, length) = (tail.as_ptr(), tail.len());
+    let (report, report_len) = (report.as_mut_ptr(), report.len());
+    unsafe {
+        compare_run_from(
+            bytes,
+            length,
+            steps.as_ptr(),
+            steps.len(),
+            report,
+            report_len,
+        )
+    }
+}
+
+pub fn list_from(tail: &[u8], steps: &[u8], text: &mut [u8]) -> u64 {
+    let (bytes, length) = (tail.as_ptr(), tail.len());
+    let (text, text_len) = (text.as_mut_ptr(), text.len());
+    unsafe { compare_list_from(bytes, length, steps.as_ptr(), steps.len(), text, text_len) }
 }
 
 /// The three numbers are the kind and the body's two numbers.

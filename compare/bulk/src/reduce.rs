@@ -136,6 +136,22 @@ fn more_starts(bytes: Vec<u8>, differs: impl Fn(&[u8]) -> bool) -> Vec<u8> {
     bytes
 }
 
+/// The plainest tail found on which `differs` holds, of the same length. First a participant's fields,
+/// or a log's two records, become 0 at once, since one of them alone would be out of range.
+pub fn tail(bytes: &[u8], differs: impl Fn(&[u8]) -> bool) -> Vec<u8> {
+    let mut bytes = bytes.to_vec();
+    for size in [7, 2] {
+        for end in size..=bytes.len() {
+            let mut plainer = bytes.clone();
+            plainer[end - size..end].fill(0);
+            if plainer != bytes && differs(&plainer) {
+                bytes = plainer;
+            }
+        }
+    }
+    lower_bytes(&bytes, differs)
+}
+
 fn lower_bytes(bytes: &[u8], differs: impl Fn(&[u8]) -> bool) -> Vec<u8> {
     let as_bytes = |numbers: &[u32]| -> Vec<u8> { numbers.iter().map(|n| *n as u8).collect() };
     let given: Vec<u32> = bytes.iter().map(|byte| u32::from(*byte)).collect();

@@ -60,6 +60,15 @@ pub fn records(bytes: &[u8]) -> impl Iterator<Item = &[u8]> {
     })
 }
 
+/// The places at which one of these records ends.
+pub fn record_ends(bytes: &[u8]) -> Vec<usize> {
+    let ends = records(bytes).scan(0, |end, record| {
+        *end += record.len();
+        Some(*end)
+    });
+    ends.collect()
+}
+
 /// Appends a record whose numbers fit their bytes.
 pub fn append(bytes: &mut Vec<u8>, record: Record) {
     let [a, b, c, d] = record.second.to_le_bytes();
@@ -196,6 +205,34 @@ impl Run {
         }
     }
 
+    /// A run under this header in which nothing is delivered after the votes, and a rough end may
+    /// follow.
+    fn silent(random: &mut Random, header: Header) -> Run {
+        let votes = 2 * header.n + 1;
+        Run {
+            phases: [SILENCE, ROUGH],
+            change: votes + random.between(10, 60),
+            ..Run::terminating(header)
+        }
+    }
+
+    /// A run that goes on from this state; later it has crashes and restarts that keep it going.
+    fn from_tail(random: &mut Random, tail: &Tail) -> Run {
+        let header = Header {
+            kind: Form::Wide.header_kind(),
+            n: tail.n,
+            votes: tail.votes,
+        };
+        Run {
+            header,
+            tail: *tail,
+            phases: [any_weights(random), random.pick(&[ROUGH, CRASHES])],
+            change: random.below(50),
+            // One that has taken no step would look for a start.
+            steps: 1,
+        }
+    }
+
     /// Appends a due step, or any where none is found.
     pub fn append_step(&mut self, random: &mut Random, bytes: &mut Vec<u8>) {
         let record = self.step(random).unwrap_or_else(|| self.any_step(random));
@@ -318,10 +355,30 @@ pub fn random_schedule(random: &mut Random, form: Form, steps: usize) -> Vec<u8>
     continued(random, run, bytes, steps)
 }
 
-/// A random wide schedule of the steps to all votes and at most this many further ones, since so
-/// many participants would hardly ever all vote by chance.
-pub fn voted_schedule(random: &mut Random, steps: usize) -> Vec<u8> {
-    let mut run = Run::fresh(random, Form::Wide, false);
+/// A random schedule of the steps to all votes and at most this many further ones, since many
+/// participants would hardly ever all vote by chance.
+pub fn voted_schedule(random: &mut Random, form: Form, steps: usize) -> Vec<u8> {
+    let run = Run::fresh(random, form, false);
+    continued_after_votes(random, run, steps)
+}
+
+/// A schedule of the steps to all votes, which are yes, and at most this many further ones. At first
+/// nothing is delivered any more, so that terminations are under way.
+pub fn silent_schedule(random: &mut Random, form: Form, steps: usize) -> Vec<u8> {
+    let header = any_header(random, form);
+    let votes = full(header.n);
+    let run = Run::silent(random, Header { votes, ..header });
+    continued_after_votes(random, run, steps)
+}
+
+/// The bytes of at most this many steps from a state.
+pub fn steps_from(random: &mut Random, tail: &Tail, steps: usize) -> Vec<u8> {
+    let run = Run::from_tail(random, tail);
+    continued(random, run, Vec::new(), steps)
+}
+
+/// The bytes of the header, the steps to all votes, and at most this many further ones.
+fn continued_after_votes(random: &mut Random, mut run: Run, steps: usize) -> Vec<u8> {
     let mut bytes = header_bytes(run.header);
     for record in every_vote(run.header.n) {
         append(&mut bytes, run.take(record));
@@ -361,8 +418,19 @@ pub fn closed_at_the_end(form: Form, n: u32, length: usize) -> Vec<u8> {
 
 /// A random schedule of just this many bytes, at least those of its header.
 pub fn schedule_of_length(random: &mut Random, form: Form, length: usize) -> Vec<u8> {
-    let mut run = Run::fresh(random, form, true);
-    let mut bytes = header_bytes(run.header);
+    let run = Run::fresh(random, form, true);
+    let bytes = header_bytes(run.header);
+    filled(random, run, bytes, length)
+}
+
+/// Random steps from a state, of just this many bytes.
+pub fn rest_of_length(random: &mut Random, tail: &Tail, length: usize) -> Vec<u8> {
+    let run = Run::from_tail(random, tail);
+    filled(random, run, Vec::new(), length)
+}
+
+/// The bytes of a run so far, followed by steps up to just this many bytes.
+fn filled(random: &mut Random, mut run: Run, mut bytes: Vec<u8>, length: usize) -> Vec<u8> {
     loop {
         let whole = bytes.len();
         run.append_step(random, &mut bytes);

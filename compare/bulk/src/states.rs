@@ -1,29 +1,13 @@
-//! States of a release for the single step: every one of n = 1, built ones that no run reaches, and
-//! damaged ones.
+//! States of a release, for the single step and for runs from a tail: every one of n = 1, built ones
+//! that no run reaches, and damaged ones.
 
+use crate::fields::{self, put};
 use crate::random::Random;
-use crate::schedules::{any_header, full};
+use crate::schedules::{any_header, full, random_schedule, silent_schedule, voted_schedule};
 use second::{Form, Header, ParticipantFields, Tail};
 
 /// The length of a state, which has the wide tail's form whatever its n.
 pub const TAIL: usize = Form::Wide.tail_length();
-
-/// Place and length of n, votes, coordinator state, heard mask and message masks.
-const RELEASE: [(usize, usize); 9] = [
-    (0, 1),
-    (1, 4),
-    (5, 1),
-    (6, 4),
-    (10, 4),
-    (14, 4),
-    (18, 4),
-    (22, 4),
-    (26, 4),
-];
-const HEARD: (usize, usize) = RELEASE[3];
-/// The places of participant 1 and of the coordinator's count of calls.
-const PARTICIPANTS: usize = 30;
-const COUNTS: usize = 254;
 
 /// The pairs of first and last record that a log may hold.
 const PAIRS: [(u32, u32); 5] = [(0, 0), (1, 1), (1, 2), (1, 3), (2, 2)];
@@ -61,37 +45,48 @@ pub fn damage(random: &mut Random, form: Form, bytes: &mut [u8; TAIL]) {
     let most = form.most_participants();
     let full = full(u32::from(bytes[0]).clamp(1, most));
     let own = 1 << random.below(most);
-    let participant = PARTICIPANTS + 7 * random.place(most as usize);
-    let count = COUNTS + 2 * random.place(most as usize + 1);
+    let release = fields::release(Form::Wide);
+    let [state, heard, records, _] = fields::participant(Form::Wide, random.place(most as usize));
+    let (count, _) = fields::count(Form::Wide, random.place(most as usize + 1));
     let beyond = full.wrapping_add(1);
     match random.below(8) {
         0 => bytes[random.place(TAIL)] = random.byte(),
         1 => bytes[random.place(TAIL)] = random.small_byte(),
         2 => {
             let numbers = [full, beyond, 7, 9, 33, 255, 1 << 31];
-            put(bytes, random.pick(&RELEASE), random.pick(&numbers));
+            put(bytes, random.pick(&release), random.pick(&numbers));
         }
-        3 => bytes[participant] = random.below(11) as u8,
+        3 => put(bytes, state, random.below(11)),
         4 => {
             let masks = [full, own, full & !own, beyond, 0, 1, 255, 1 << 31];
-            put(bytes, (participant + 1, 4), random.pick(&masks));
+            put(bytes, heard, random.pick(&masks));
         }
-        5 => bytes[participant + 5..][..2].fill_with(|| random.below(5) as u8),
+        5 => bytes[records.0..][..2].fill_with(|| random.below(5) as u8),
         6 => bytes[count..][..2].copy_from_slice(&[random.pick(&[254, 255]), 255]),
         _ => {
             let masks = [full, full >> 1, beyond, 1, 0, 255];
-            put(bytes, HEARD, random.pick(&masks));
+            put(bytes, release[3], random.pick(&masks));
         }
     }
 }
 
-/// Puts a number into a field, low byte first.
-fn put(bytes: &mut [u8; TAIL], (place, length): (usize, usize), number: u32) {
-    bytes[place..][..length].copy_from_slice(&number.to_le_bytes()[..length]);
+/// The state at the end of a random run of this form.
+pub fn reached(random: &mut Random, form: Form) -> Tail {
+    let steps = random.place(60);
+    let schedule = match random.below(3) {
+        0 => random_schedule(random, form, steps),
+        1 => voted_schedule(random, form, steps),
+        _ => silent_schedule(random, form, steps),
+    };
+    // A step takes at least one byte.
+    let mut report = vec![0; schedule.len() + TAIL];
+    let length = second::run(&schedule, &mut report).expect("the schedule is accepted");
+    Tail::from_bytes(form, &report[length - form.tail_length()..length])
 }
 
-/// A state in range, field by field, that mostly no run reaches.
-pub fn built(random: &mut Random, form: Form) -> Tail {
+/// A state in range, field by field, that mostly no run reaches; each count of calls is one of
+/// these.
+pub fn built(random: &mut Random, form: Form, counts: &[u16]) -> Tail {
     let mut tail = Tail::fresh(any_header(random, form));
     let full = full(tail.n);
     tail.state = random.between(0, 6);
@@ -104,7 +99,7 @@ pub fn built(random: &mut Random, form: Form) -> Tail {
         tail.participants[own as usize] = built_participant(random, form, others);
     }
     for party in 0..=tail.n {
-        tail.calls[party as usize] = random.pick(&[0, 1, 255, 256, 10_000, 65_533, 65_534]);
+        tail.calls[party as usize] = random.pick(counts);
     }
     tail
 }

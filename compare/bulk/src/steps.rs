@@ -1,7 +1,7 @@
 //! Group 7, the single step: states that random runs reach, the same with a damaged field, and
 //! states in range that no run reaches; group 17 is the same for states of wide schedules.
 
-use crate::difference::{hexadecimal, Difference};
+use crate::difference::{tail_words, Difference};
 use crate::figures::{add, due_words, EndedByDecision, Numbers, ReportBytes};
 use crate::jobs;
 use crate::lent::pattern;
@@ -18,6 +18,9 @@ const RUNS: usize = 20;
 const BUILT: usize = 40;
 /// How many steps a run has.
 const STEPS: u32 = 60;
+
+/// Counts of calls up to the greatest that a single step takes.
+const COUNTS: [u16; 7] = [0, 1, 255, 256, 10_000, 65_533, 65_534];
 
 /// The lent bytes of a tail, and some beyond.
 const ROOM: usize = TAIL + 5;
@@ -125,7 +128,7 @@ pub fn compare_runs(seed: u64, cases: usize, form: Form) -> Result<StepFigures, 
             follow_run(&mut random, form, &mut figures)?;
         }
         for _ in 0..BUILT {
-            let tail = built(&mut random, form);
+            let tail = built(&mut random, form, &COUNTS);
             every_step_of(&tail, &mut figures)?;
             odd_steps(&tail, &mut random, form, &mut figures)?;
             damaged_states(&tail, &mut random, form, &mut figures)?;
@@ -271,7 +274,7 @@ fn reduced(bytes: &[u8; TAIL], step: [u32; 3], length: usize) -> Difference {
         let (number, byte) = (answer & 0xFF, answer >> 8);
         format!(
             "number {number}, report byte {byte}, state afterwards {}",
-            state_words(&lent)
+            tail_words(Form::Wide, &lent)
         )
     };
     let [kind, first, second] = step;
@@ -279,24 +282,9 @@ fn reduced(bytes: &[u8; TAIL], step: [u32; 3], length: usize) -> Difference {
         input: format!(
             "single step, kind {kind}, numbers {first} and {second}, \
              a slice of {length} bytes, state {}",
-            state_words(&bytes)
+            tail_words(Form::Wide, &bytes)
         ),
         proved: words(step_proved(&bytes, step, length)),
         second: words(step_second(&bytes, step, length)),
     }
-}
-
-/// The bytes in groups: n and votes, the coordinator, the messages, each participant, the counts of
-/// calls, and what lies beyond.
-fn state_words(bytes: &[u8]) -> String {
-    let mut rest = bytes;
-    let mut groups = Vec::new();
-    let lengths = [5, 5, 20].into_iter().chain([7; 32]).chain([66]);
-    for length in lengths {
-        let (group, after) = rest.split_at(length);
-        groups.push(hexadecimal(group));
-        rest = after;
-    }
-    groups.push(hexadecimal(rest));
-    groups.join(" | ")
 }

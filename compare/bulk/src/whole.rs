@@ -8,7 +8,7 @@ use crate::lines;
 use crate::random::Random;
 use crate::replay::Programs;
 use crate::schedules::{
-    any_header, append, every_step, group, header_bytes, random_schedule, records,
+    any_header, append, every_step, group, header_bytes, random_schedule, record_ends,
     schedule_of_length, voted_schedule, LIMIT,
 };
 use crate::terminations;
@@ -48,7 +48,7 @@ fn any_length(random: &mut Random, form: Form, at: usize) -> Vec<u8> {
     let steps = random.place(most + 1);
     match (form, at % 10) {
         (Form::Wide, 0) => terminations::of_few(random),
-        (Form::Wide, 1 | 2 | 9) => voted_schedule(random, steps),
+        (Form::Wide, 1 | 2 | 9) => voted_schedule(random, form, steps),
         _ => random_schedule(random, form, steps),
     }
 }
@@ -148,7 +148,7 @@ fn after(header: &[u8], length: usize, mut byte: impl FnMut() -> u8) -> Vec<u8> 
 }
 
 /// A byte changed, removed or added, or all bytes from some place cut off.
-fn damage(random: &mut Random, bytes: &mut Vec<u8>) {
+pub fn damage(random: &mut Random, bytes: &mut Vec<u8>) {
     let place = random.place(bytes.len() + 1);
     match random.below(4) {
         0 if place < bytes.len() => bytes[place] = random.small_byte(),
@@ -179,14 +179,7 @@ fn with_damaged_header(random: &mut Random) -> Vec<u8> {
 
 /// Puts a header of either kind after one of the records.
 fn insert_header(random: &mut Random, bytes: &mut Vec<u8>) {
-    let lengths = records(bytes).map(<[u8]>::len);
-    let ends: Vec<usize> = lengths
-        .scan(0, |end, length| {
-            *end += length;
-            Some(*end)
-        })
-        .collect();
-    let place = random.pick(&ends);
+    let place = random.pick(&record_ends(bytes));
     let form = random.pick(&[Form::Narrow, Form::Wide]);
     bytes.splice(place..place, header_bytes(any_header(random, form)));
 }

@@ -1,6 +1,7 @@
-//! A second implementation of document 01 with requests 2026-01 to 2026-03: the store, the
+//! A second implementation of document 01 with requests 2026-01 to 2026-04: the store, the
 //! participant, the coordinator, the reader and writer of schedules, the marker that runs a
-//! schedule of one release, and the host entry.
+//! schedule of one release or goes on from a tail, the move of a tail to the wide form, and the host
+//! entry.
 
 mod coordinator;
 mod form;
@@ -10,6 +11,7 @@ mod marker;
 mod mask;
 mod message;
 pub mod model;
+mod moving;
 mod participant;
 mod refusal;
 mod release;
@@ -20,8 +22,9 @@ mod tail;
 
 pub use form::Form;
 pub use host::host_step;
-pub use listing::listing;
-pub use marker::run;
+pub use listing::{listing, listing_from};
+pub use marker::{run, run_from};
+pub use moving::move_tail;
 pub use refusal::Refusal;
 pub use release::{is_due, single_step, take_step};
 pub use schedule::{read_record, write_record, Header, Record};

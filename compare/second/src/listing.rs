@@ -1,7 +1,8 @@
-//! The listing that program `mark` prints for a schedule.
+//! The listing of a run: of a schedule, as program `mark` prints it, or of steps from a tail.
 
 use crate::form::Form;
-use crate::marker::run;
+use crate::marker::{run, run_from};
+use crate::refusal::Refusal;
 use crate::report;
 use crate::schedule::MOST_BYTES;
 use crate::store;
@@ -9,11 +10,23 @@ use crate::tail::Tail;
 
 /// What program `mark` prints for this schedule, every line ended by a newline.
 pub fn listing(schedule: &[u8]) -> String {
+    // Without bytes there is no header, and no report whose form would matter.
+    let kind = schedule.first().map_or(0, |&kind| u32::from(kind));
+    lines_of_run(Form::under(kind), |report| run(schedule, report))
+}
+
+/// The listing of a run of these steps from a wide tail, every line ended by a newline.
+pub fn listing_from(tail: &[u8], steps: &[u8]) -> String {
+    lines_of_run(Form::Wide, |report| run_from(tail, steps, report))
+}
+
+/// The lines of a run whose report has this form, or the line of its refusal.
+fn lines_of_run(form: Form, run: impl FnOnce(&mut [u8]) -> Result<usize, Refusal>) -> String {
     // A step takes at least one byte, so no report is longer.
     let mut buffer = vec![0; MOST_BYTES + Form::Wide.tail_length()];
-    match run(schedule, &mut buffer) {
+    match run(&mut buffer) {
         Err(refusal) => format!("refused {} at {}\n", refusal.number, refusal.value),
-        Ok(length) => report_lines(Form::under(u32::from(schedule[0])), &buffer[..length]),
+        Ok(length) => report_lines(form, &buffer[..length]),
     }
 }
 

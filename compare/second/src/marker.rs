@@ -1,32 +1,30 @@
-//! The marker: runs a schedule of one release and writes the report.
+//! The marker: runs the steps of one release, from fresh or from a tail, and writes the report.
 
+use crate::form::Form;
+use crate::moving::accept_tail;
 use crate::refusal::{Refusal, BUFFER_TOO_SHORT, EMPTY_OR_TOO_LONG};
 use crate::release::take_step;
 use crate::report;
-use crate::schedule::{read_record, read_step, AcceptedRecords, Header, MOST_BYTES};
+use crate::schedule::{read_record, read_step, AcceptedRecords, MOST_BYTES};
 use crate::tail::Tail;
 
-/// A schedule without refusals: its header, the bytes of its steps and their number.
+const LENGTH_REFUSED: Refusal = Refusal {
+    number: EMPTY_OR_TOO_LONG,
+    value: 0,
+};
+
+/// Steps without refusals, and their number.
 struct Accepted<'a> {
-    header: Header,
     steps: AcceptedRecords<'a>,
     count: usize,
 }
 
-/// Reads the whole schedule from the left.
-fn accept(schedule: &[u8]) -> Result<Accepted<'_>, Refusal> {
-    if schedule.is_empty() || schedule.len() > MOST_BYTES {
-        return Err(Refusal {
-            number: EMPTY_OR_TOO_LONG,
-            value: 0,
-        });
-    }
-    let (first, after_header) = read_record(schedule, None)?;
-    let header = first.header();
-    let mut place = after_header;
+/// Reads the steps from this place on, from the left, under a header in range that has this n.
+fn accept_steps(bytes: &[u8], start: usize, n: u32) -> Result<Accepted<'_>, Refusal> {
+    let mut place = start;
     let mut count = 0;
-    while place < schedule.len() {
-        let step = read_step(&schedule[place..], header.n);
+    while place < bytes.len() {
+        let step = read_step(&bytes[place..], n);
         let (_, length) = step.map_err(|number| Refusal {
             number,
             value: place,
@@ -35,20 +33,42 @@ fn accept(schedule: &[u8]) -> Result<Accepted<'_>, Refusal> {
         count += 1;
     }
     let steps = AcceptedRecords {
-        rest: &schedule[after_header..],
+        rest: &bytes[start..],
     };
-    Ok(Accepted {
-        header,
-        steps,
-        count,
-    })
+    Ok(Accepted { steps, count })
 }
 
-/// Writes the report into the lent buffer and returns its length; or a refusal, and the buffer is
-/// untouched.
+/// Runs a schedule from fresh. Writes the report into the lent buffer and returns its length; or a
+/// refusal, and the buffer is untouched.
 pub fn run(schedule: &[u8], report: &mut [u8]) -> Result<usize, Refusal> {
-    let accepted = accept(schedule)?;
-    let form = accepted.header.form();
+    if schedule.is_empty() || schedule.len() > MOST_BYTES {
+        return Err(LENGTH_REFUSED);
+    }
+    let (first, after_header) = read_record(schedule, None)?;
+    let header = first.header();
+    let accepted = accept_steps(schedule, after_header, header.n)?;
+    mark(Tail::fresh(header), header.form(), accepted, report)
+}
+
+/// Runs steps from the state of a wide tail; there may be none. Writes the report into the lent
+/// buffer and returns its length; or a refusal, and the buffer is untouched.
+pub fn run_from(tail: &[u8], steps: &[u8], report: &mut [u8]) -> Result<usize, Refusal> {
+    if steps.len() > MOST_BYTES {
+        return Err(LENGTH_REFUSED);
+    }
+    let state = accept_tail(Form::Wide, tail)?;
+    let accepted = accept_steps(steps, 0, state.n)?;
+    mark(state, Form::Wide, accepted, report)
+}
+
+/// Takes the steps from this state: a byte a step, then the tail of this form. Returns the report's
+/// length; or the refusal of a buffer too short.
+fn mark(
+    mut tail: Tail,
+    form: Form,
+    accepted: Accepted,
+    report: &mut [u8],
+) -> Result<usize, Refusal> {
     let length = accepted.count + form.tail_length();
     if report.len() < length {
         return Err(Refusal {
@@ -57,7 +77,6 @@ pub fn run(schedule: &[u8], report: &mut [u8]) -> Result<usize, Refusal> {
         });
     }
     let (step_bytes, rest) = report.split_at_mut(accepted.count);
-    let mut tail = Tail::fresh(accepted.header);
     for (byte, step) in step_bytes.iter_mut().zip(accepted.steps) {
         *byte = take_step(&mut tail, step).unwrap_or(report::IDLE);
     }

@@ -1,6 +1,7 @@
 //! One step of a whole release: whether it is due, the state after it and its report byte.
 
 use crate::coordinator::{self, Coordinator};
+use crate::form::Form;
 use crate::message;
 use crate::participant::{self, Participant};
 use crate::refusal::{NOT_DUE, OUT_OF_RANGE};
@@ -10,7 +11,7 @@ use crate::schedule::{
     TIMEOUT,
 };
 use crate::store::{self, Performed};
-use crate::tail::Tail;
+use crate::tail::{Tail, MOST_CALLS_BEFORE_A_STEP};
 
 /// Party 0; any other party is the participant of that number.
 const COORDINATOR: u32 = 0;
@@ -22,7 +23,9 @@ pub fn single_step(tail: &Tail, kind: u32, first: u32, second: u32) -> Result<(T
         first,
         second,
     };
-    if !tail.is_in_range() || !step.is_step_in_range(tail.n) {
+    // A state has no form, so the one that takes any n stands for both.
+    let state_in_range = tail.is_in_range(Form::Wide, MOST_CALLS_BEFORE_A_STEP);
+    if !state_in_range || !step.is_step_in_range(tail.n) {
         return Err(OUT_OF_RANGE);
     }
     let mut after = *tail;

@@ -5,14 +5,18 @@ use crate::coordinator::Coordinator;
 use crate::form::Form;
 use crate::mask::{self, bit, full, MOST_PARTICIPANTS};
 use crate::participant::Participant;
-use crate::schedule::{Header, WIDE_HEADER};
+use crate::schedule::Header;
 use crate::store::Log;
 
 /// The number of participants that a state has fields for.
 const PLACES: usize = MOST_PARTICIPANTS as usize;
 
-/// A count of calls that a single step can't raise.
-const COUNT_OUT_OF_RANGE: u16 = 65_535;
+/// The greatest count of calls that a single step takes, since the step may raise it by one.
+pub(crate) const MOST_CALLS_BEFORE_A_STEP: u16 = 65_534;
+
+/// The greatest count of calls that a move or a start takes. The calls of a run, three bytes each,
+/// can't raise it beyond two bytes.
+pub(crate) const MOST_CALLS_BEFORE_A_RUN: u16 = 54_000;
 
 /// The lengths of the tail and of its parts. First come n and the coordinator's state in a byte
 /// each, and seven masks: votes, heard and messages. Then each participant has three bytes and a
@@ -180,11 +184,10 @@ impl Tail {
         tail
     }
 
-    /// Whether a single step takes this state: what the tail of that n could hold, with no count of
-    /// 65,535. A state has no form, so the header that takes any n stands for both.
-    pub(crate) fn is_in_range(&self) -> bool {
+    /// Whether a tail of this form could hold this state, with no count of calls over `most_calls`.
+    pub(crate) fn is_in_range(&self, form: Form, most_calls: u16) -> bool {
         let header = Header {
-            kind: WIDE_HEADER,
+            kind: form.header_kind(),
             n: self.n,
             votes: self.votes,
         };
@@ -194,7 +197,7 @@ impl Tail {
             && self.messages.iter().all(is_within_n)
             && (1..=self.n).all(|p| self.participant(p).is_in_range() && self.log(p).is_allowed())
             && self.is_zero_beyond_n()
-            && !self.calls.contains(&COUNT_OUT_OF_RANGE)
+            && self.calls.iter().all(|count| *count <= most_calls)
     }
 
     fn is_zero_beyond_n(&self) -> bool {

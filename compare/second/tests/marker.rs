@@ -3,12 +3,11 @@
 
 mod common;
 
-use common::{bytes, fresh, header_bytes, headers, steps, tail_length, wide_headers, Numbers};
-use second::{is_due, listing, run, single_step, write_record, Header, Record, Refusal, Tail};
-
-fn refusal(number: u32, value: usize) -> Result<usize, Refusal> {
-    Err(Refusal { number, value })
-}
+use common::{
+    bytes, bytes_of, fresh, header_bytes, headers, refusal, single_steps, steps_from, tail_length,
+    wide_headers, Numbers,
+};
+use second::{listing, run, single_step, Header, Record, Tail};
 
 #[test]
 fn refusals_in_order() {
@@ -56,44 +55,9 @@ fn report_too_short() {
     assert_eq!(report[61], 0xEE);
 }
 
-/// A schedule of that many steps, more often due than not.
-fn schedule(header: Header, count: usize, numbers: &mut Numbers) -> (Vec<u8>, Vec<Record>) {
-    let all = steps(header.n);
-    let mut tail = Tail::fresh(header);
-    let mut bytes = header_bytes(header);
-    let mut taken = Vec::new();
-    for _ in 0..count {
-        let due: Vec<Record> = all.iter().copied().filter(|&s| is_due(&tail, s)).collect();
-        let from = if numbers.below(8) == 0 { &all } else { &due };
-        let step = from[numbers.below(from.len())];
-        if let Ok((after, _)) = single_step(&tail, step.kind, step.first, step.second) {
-            tail = after;
-        }
-        let mut record = [0; 3];
-        let length = write_record(&mut record, 0, step.kind, step.first, step.second);
-        bytes.extend(&record[..length.expect("in range")]);
-        taken.push(step);
-    }
-    (bytes, taken)
-}
-
 /// The report as repeated single steps give it.
 fn repeated_single_steps(header: Header, steps: &[Record]) -> Vec<u8> {
-    let mut tail = Tail::fresh(header);
-    let mut report = Vec::new();
-    for step in steps {
-        match single_step(&tail, step.kind, step.first, step.second) {
-            Ok((after, byte)) => {
-                assert!([1, 2, 3, 5, 7].contains(&byte));
-                tail = after;
-                report.push(byte);
-            }
-            Err(number) => {
-                assert_eq!(number, 7);
-                report.push(0);
-            }
-        }
-    }
+    let (mut report, tail) = single_steps(Tail::fresh(header), steps);
     match header.kind {
         0x0B => report.extend(tail.wide_bytes()),
         _ => report.extend(tail.narrow_bytes()),
@@ -106,7 +70,8 @@ fn run_equals_repeated_single_steps() {
     let mut numbers = Numbers(1);
     for header in headers().into_iter().chain(wide_headers()) {
         for count in [0, 1, 10, 100] {
-            let (schedule, steps) = schedule(header, count, &mut numbers);
+            let steps = steps_from(Tail::fresh(header), count, &mut numbers);
+            let schedule = [header_bytes(header), bytes_of(&steps)].concat();
             let length = count + tail_length(header);
             let mut report = vec![0xEE; length + 1];
             assert_eq!(run(&schedule, &mut report), Ok(length));

@@ -4,8 +4,8 @@
 mod common;
 
 use common::{bytes, narrow, wide};
-use second::model::{check, check_rules, Rules};
-use second::{report, single_step, Header, Record, Tail};
+use second::model::{check, check_rules, Figures, Rules};
+use second::{report, single_step, take_step, Header, Record, Tail};
 
 const NO_VOTE: Header = narrow(1, 0);
 const YES_VOTE: Header = narrow(1, 1);
@@ -98,7 +98,8 @@ fn every_clause_holds() {
     for n in 1..=2 {
         for votes in 0..1 << n {
             let figures = check(narrow(n, votes));
-            assert!(figures.is_ok());
+            let all_moved = |figures: &Figures| figures.moved == figures.states;
+            assert!(figures.as_ref().is_ok_and(all_moved));
             assert_eq!(check_rules(narrow(n, votes), by_the_rules), figures);
             assert_eq!(check(wide(n, votes)), figures);
         }
@@ -656,4 +657,19 @@ fn decision_taken_in_another_state() {
     for (header, rules, schedule) in cases {
         assert_violated(header, rules, DECISION_WITHOUT_EFFECT, schedule);
     }
+}
+
+/// A tail with such a mask is out of range. The single step would refuse the state too, so the rules
+/// are those of the step in place.
+#[test]
+fn heard_mask_of_a_retired_coordinator() {
+    let rules = |tail: &mut Tail, step: Record| {
+        let byte = take_step(tail, step)?;
+        if (step.kind, step.first) == (0x0A, 0) {
+            tail.heard = 1;
+        }
+        Some(byte)
+    };
+    let clause = "a run from the moved tail of a state goes on in that same state";
+    assert_violated(NO_VOTE, rules, clause, "01 01 00 09 00 0A 00");
 }

@@ -3,14 +3,12 @@
 
 mod common;
 
-use common::{bytes, header_bytes, headers, narrow, report, steps, wide, Numbers};
-use second::{listing, run, write_record, Record, Refusal};
+use common::{
+    bytes, bytes_of, header_bytes, headers, narrow, refusal, report, steps, wide, Numbers,
+};
+use second::{listing, run, Record};
 
 const ALL_YES: &str = "0B 20 FF FF FF FF";
-
-fn refusal(number: u32, value: usize) -> Result<usize, Refusal> {
-    Err(Refusal { number, value })
-}
 
 /// The bytes of this record for each of these numbers, which takes the place of X.
 fn for_each(record: &str, numbers: impl IntoIterator<Item = u32>) -> String {
@@ -244,14 +242,8 @@ fn limit_of_wide_schedule() {
 /// The bytes of that many steps, due or not.
 fn any_steps(n: u32, count: usize, numbers: &mut Numbers) -> Vec<u8> {
     let all: Vec<Record> = steps(n);
-    let mut bytes = Vec::new();
-    for _ in 0..count {
-        let step = all[numbers.below(all.len())];
-        let mut record = [0; 3];
-        let length = write_record(&mut record, 0, step.kind, step.first, step.second);
-        bytes.extend(&record[..length.expect("in range")]);
-    }
-    bytes
+    let any = |_| all[numbers.below(all.len())];
+    bytes_of(&(0..count).map(any).collect::<Vec<Record>>())
 }
 
 #[test]

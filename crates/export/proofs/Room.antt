@@ -10,6 +10,7 @@ use Rattle.kind.specs.Step.{stepOf, numbersInRange}
 use Rattle.rules.specs.State.{types}
 use Rattle.rules.specs.Report.{moves}
 use Rattle.rules.specs.Step.{step}
+use Rattle.rules.specs.Run.{countLimit}
 use Rattle.rules.proofs.Room.{after-room}
 use Rattle.state.specs.Fields.{HasPlaces}
 use Rattle.tail.specs.Tail.{tailOf, releaseOf, siteOf, pairOf, fieldsAt, tailInRange}
@@ -41,12 +42,12 @@ module _ (bytes : List ℕ) (kind a b : ℕ) where
       tail-numbers .decoded next (next-places .sites) (room .logs ∙ length-tabulate places (λ i. pairOf (fieldsAt given i)))
 
   pub hands-tail : HandsTail (singleStep given kind a b)
-  hands-tail = ranged (tailInRange Kind.WideHeader given && numbersInRange (given .n) kind a b) refl
+  hands-tail = ranged (tailInRange Kind.WideHeader countLimit given && numbersInRange (given .n) kind a b) refl
     where
-      due : (x : Bool) → moves (step (releaseOf given) (stepOf kind a b) .outcome) ≡ x → tailInRange Kind.WideHeader given && numbersInRange (given .n) kind a b ≡ true → HandsTail (singleStep given kind a b)
+      due : (x : Bool) → moves (step (releaseOf given) (stepOf kind a b) .outcome) ≡ x → tailInRange Kind.WideHeader countLimit given && numbersInRange (given .n) kind a b ≡ true → HandsTail (singleStep given kind a b)
       due true q p = rw (p, q) (λ _. (subst HasPlaces (sym next-back) next-places, ap tailOf next-back))
       due false q p = rw (p, q) (λ e. absurd (omega arith))
 
-      ranged : (x : Bool) → tailInRange Kind.WideHeader given && numbersInRange (given .n) kind a b ≡ x → HandsTail (singleStep given kind a b)
+      ranged : (x : Bool) → tailInRange Kind.WideHeader countLimit given && numbersInRange (given .n) kind a b ≡ x → HandsTail (singleStep given kind a b)
       ranged true p = due (moves (step (releaseOf given) (stepOf kind a b) .outcome)) refl p
       ranged false p = rw p (λ e. absurd (omega arith))

@@ -1,4 +1,5 @@
 // The public entries as C functions on bytes and numbers, for the comparison with the second program. Not part of the product's interface.
+pub mod from;
 pub mod single;
 
 use kind::Kind;
@@ -48,7 +49,7 @@ fn seven(a: u32, b: u32, c: u32, x: u32) -> u64
     four(a, b, c, 0) as u64 + 16777216 * (x as u64)
 }
 
-fn pack_written(w: Written) -> u64
+pub fn pack_written(w: Written) -> u64
     ensures { λ x. ⌜ x ≡ packed (writtenHands w) ⌝ }
 {
     match w {

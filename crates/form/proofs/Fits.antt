@@ -26,7 +26,7 @@ use Rattle.schedule.proofs.Laws.{header-room, header-votes}
 use Rattle.rules.specs.State.{types}
 use Rattle.state.specs.Fields.{HasPlaces}
 use Rattle.tail.specs.Tail.{fieldsOf, tailOf, fieldsAt, headerOf, messagesInRange, recordsInRange, fieldsZero, participantInRange, countInRange, zeros}
-use Rattle.tail.proofs.TailRange.{parties-in-range, calls-in-range, zero-fields, countable}
+use Rattle.tail.proofs.TailRange.{parties-in-range, calls-in-range, zero-fields, calls-below}
 use Rattle.form.specs.Types.{Kind, ParticipantFields, Release}
 use Rattle.form.specs.Form.{formOf, wide, FormFits, participantLength, tailLength}
 use Rattle.form.specs.Kept.{HasFields, FieldsFit, RangeFits, WideTail}
@@ -72,7 +72,7 @@ module _ (w n i : ℕ) (f : ParticipantFields) (fits : (m : ℕ) → within n m 
   fields-fit false q = rw (zero-fields f q) (record { state = omega arith; heard = fits 0 (none-within n); first = omega arith; last = omega arith })
 
 pub range-fits : RangeFits
-range-fits k t has q =
+range-fits k limit t some most has q =
     record {
       has-fields = has;
       within = form-fits k .0;
@@ -83,7 +83,7 @@ range-fits k t has q =
       messages = λ m l. fits (getD (t .messages) m 0) (every-at (λ j. within (t .n) (getD (t .messages) j 0)) types m l (and-left (messagesInRange t) _ (and-right (headerInRange (headerOf k t)) _ q)));
       participants = λ i l. fields-fit (formOf k .width) (t .n) i (fieldsAt t i) fits (ltb i (t .n)) (tested i (omega (arith, form-fits k .0)));
       participants-beyond = none;
-      calls = λ p l. omega (arith, countable k t (has .calls) q p);
+      calls = λ p l. omega (arith, calls-below k limit t some (has .calls) q p, most);
       calls-beyond = no-calls;
     }
   where
@@ -97,13 +97,13 @@ range-fits k t has q =
     fits m = mask-fits k (t .n) m (size .1)
 
     coordinator : Coordinator.numbersInRange (t .n) (t .state) (t .heard) ≡ true
-    coordinator = and-left (Coordinator.numbersInRange (t .n) (t .state) (t .heard)) _ (parties-in-range k t q)
+    coordinator = and-left (Coordinator.numbersInRange (t .n) (t .state) (t .heard)) _ (parties-in-range k limit t q)
 
     own : (Coordinator.stateNumber (Coordinator.ofNumbers (t .state) (t .heard)) ≡ t .state) × (Coordinator.heardOf (Coordinator.ofNumbers (t .state) (t .heard)) ≡ t .heard)
     own = coordinator-numbers .encoded (t .state) (t .heard) (and-left _ _ coordinator)
 
     tested : (i : ℕ) → i < places → participantInRange (t .n) i (fieldsAt t i) ≡ true
-    tested i l = every-at (λ j. participantInRange (t .n) j (fieldsAt t j)) places i l (and-right (Coordinator.numbersInRange (t .n) (t .state) (t .heard)) _ (parties-in-range k t q))
+    tested i l = every-at (λ j. participantInRange (t .n) j (fieldsAt t j)) places i l (and-right (Coordinator.numbersInRange (t .n) (t .state) (t .heard)) _ (parties-in-range k limit t q))
 
     none : (i : ℕ) → formOf k .places ≤ i → getD (t .participants) i zeros ≡ zeros
     none i l = go (decLt i places)
@@ -122,5 +122,5 @@ range-fits k t has q =
         beyond = omega (arith, size .1)
 
         go : Dec (p < suc places) → getD (t .calls) p 0 ≡ 0
-        go (yes h) = eqb-true (getD (t .calls) p 0) 0 (rw (lt-leb p (t .n) beyond) at (every-at (λ j. countInRange (t .n) j (getD (t .calls) j 0)) (suc places) p h (calls-in-range k t q)))
+        go (yes h) = eqb-true (getD (t .calls) p 0) 0 (rw (lt-leb p (t .n) beyond) at (every-at (λ j. countInRange limit (t .n) j (getD (t .calls) j 0)) (suc places) p h (calls-in-range k limit t q)))
         go (no ne) = List·getD-eq-default (t .calls) 0 {n = p} (omega (arith, has .calls))

@@ -40,9 +40,9 @@ pub record FitsForm (f : Form) (t : Tail) : Type 0 where
 abbrev pub TailKept : Type 0
 TailKept = (f : Form) (t : Tail) → FitsForm f t → tailAt f (tailBytes f t) ≡ t
 
--- and every tail in range under a header fits the form of that header's kind
+-- and every tail in range under a header, with counts that fit theirs, fits the form of that header's kind
 abbrev pub RangeFits : Type 0
-RangeFits = (k : Kind) (t : Tail) → HasFields t → tailInRange k t ≡ true → FitsForm (formOf k) t
+RangeFits = (k : Kind) (limit : ℕ) (t : Tail) → 0 < limit → limit ≤ 256 ^ countWidth → HasFields t → tailInRange k limit t ≡ true → FitsForm (formOf k) t
 
 -- document 01's tail under header 01
 abbrev pub NarrowTail : Type 0

@@ -95,10 +95,17 @@ module _ (input : List ℕ) (used size : ℕ) (w : WholeFrame (drop used input) 
   frame-there : take (2 + size) (drop used input) ≡ frameOf (w .schedule)
   frame-there = ap (take (2 + size)) (w .split) ∙ take-at (frameOf (w .schedule)) (w .rest) (2 + size) (omega (arith, w .long))
 
-  schedule-there : take (used + 2 + size - (used + 2)) (drop (used + 2) input) ≡ w .schedule
+  pub schedule-there : take (used + 2 + size - (used + 2)) (drop (used + 2) input) ≡ w .schedule
   schedule-there =
       ap₂ (λ (n : ℕ) (l : List ℕ). take n l) (let z : used + 2 + size - (used + 2) ≡ size = omega arith in z) (sym (drop-drop 2 used input) ∙ ap (drop 2) (w .split))
       ∙ take-at (w .schedule) (w .rest) size (w .long)
+
+  pub rest-there : drop (used + 2 + size) input ≡ w .rest
+  rest-there =
+      ap (λ n. drop n input) (let z : used + 2 + size ≡ used + (2 + size) = omega arith in z)
+      ∙ sym (drop-drop (2 + size) used input)
+      ∙ ap (drop (2 + size)) (w .split)
+      ∙ drop-at (frameOf (w .schedule)) (w .rest) (2 + size) (omega (arith, w .long))
 
   -- its line goes after those before, and its run after theirs
   pub mark-next : {text₀ report₀ text report after left : List ℕ} {filled end : ℕ} → Marking input text₀ report₀ used filled text report

@@ -9,18 +9,29 @@ use Rattle.text.specs.Put.{Put, each}
 use Rattle.schedule.specs.Record.{longest}
 use Rattle.schedule.specs.Schedule.{Reading, Accepted, Refused, readSchedule}
 use Rattle.form.specs.Form.{wide, tailLength}
+use Rattle.passes.specs.Pass.{freshOf}
 use Rattle.marker.specs.Report.{reportBytes}
 use Rattle.marker.specs.Run.{runLeaves}
-use Rattle.frame.specs.Types.{Frame}
+use Rattle.frame.specs.Types.{Written, Frame}
 
 -- a schedule in its frame: two bytes length, low first, then its bytes
 abbrev pub frameOf : List ℕ → List ℕ
 frameOf schedule = length schedule % 256 ∷ length schedule / 256 ∷ schedule
 
--- one line: the report in lower-case hexadecimal, or `refused K at B`
+-- one line: what an entry wrote into a lent buffer, in lower-case hexadecimal, or `refused K at B`
+abbrev pub answerLine : Written → List ℕ → List ℕ
+answerLine (Written.Done end) left = hexadecimal (take end left) ++ ascii "\n"
+answerLine (Written.Refused k place) left = refusalLine k place
+
+-- what it wrote is in the buffer
+abbrev pub WroteWithin : Written → List ℕ → Type 0
+WroteWithin (Written.Done end) left = end ≤ length left
+WroteWithin (Written.Refused k place) left = Unit {0}
+
+-- of a run: its report
 
 abbrev pub readingLine : Reading → List ℕ
-readingLine (Accepted h steps) = hexadecimal (reportBytes h steps) ++ ascii "\n"
+readingLine (Accepted h steps) = hexadecimal (reportBytes (h .kind) (freshOf h) steps) ++ ascii "\n"
 readingLine (Refused k place) = refusalLine k place
 
 abbrev pub lineOf : List ℕ → List ℕ

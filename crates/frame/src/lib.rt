@@ -11,7 +11,7 @@ ghost use Prim.Native.Nat.{_+_, _≤_, _<_};
 ghost use lib.ListN.{length};
 ghost use Rattle.text.specs.Put.{Put};
 ghost use Rattle.marker.specs.Run.{runLeaves};
-ghost use Rattle.frame.specs.Frame.{BeginsWith, MarkedUpTo, lineOf, longestReport, longestLine};
+ghost use Rattle.frame.specs.Frame.{BeginsWith, MarkedUpTo, answerLine, WroteWithin, lineOf, longestReport, longestLine};
 
 // No report has more bytes than this, no line and no frame: two bytes tell its length.
 pub const REPORT: usize = LONGEST + TAIL;
@@ -53,6 +53,20 @@ pub fn first_frame(bytes: &[u8]) -> Frame
     }
 }
 
+// The line of an entry's answer, at a place of the text: what it wrote into the buffer, or its refusal.
+pub fn put_answer(answer: Written, left: &[u8], text: &mut [u8], place: usize) -> usize
+    requires { ⌜ WroteWithin answer (now left) × (place + length (answerLine answer (now left)) ≤ length (now text)) ⌝ }
+    ensures { λ end. ⌜ Put (now (text .entry)) place (answerLine answer (now (left .entry))) end (now (text .exit)) ⌝ }
+{
+    match answer {
+        Written::Done(length) => {
+            let end = put_hexadecimal(text, place, &left[..length]);
+            put(text, end, b"\n")
+        }
+        Written::Refused(k, at) => put_refusal(text, place, k, at),
+    }
+}
+
 // The line of a schedule, at a place of the text. The report is left as a run leaves it.
 pub fn put_line(schedule: &[u8], report: &mut [u8], text: &mut [u8], place: usize) -> usize
     requires { ⌜ (longestReport ≤ length (now report)) × (place + longestLine ≤ length (now text)) ⌝ }
@@ -60,13 +74,7 @@ pub fn put_line(schedule: &[u8], report: &mut [u8], text: &mut [u8], place: usiz
         × (now (report .exit) ≡ runLeaves (now (report .entry)) (now (schedule .entry))) ⌝ }
 {
     let ran = run(schedule, report);
-    match ran {
-        Written::Done(length) => {
-            let end = put_hexadecimal(text, place, &report[..length]);
-            put(text, end, b"\n")
-        }
-        Written::Refused(k, at) => put_refusal(text, place, k, at),
-    }
+    put_answer(ran, report, text, place)
 }
 
 // Marks frames from the front, as long as the next one is whole and its line, however long, has room.

@@ -2,76 +2,102 @@
 use mathlib.Core.Path.{_≡_, ap, _∙_}
 use mathlib.Core.Bool.{false, cond}
 use mathlib.Core.List.{List}
-use Prim.Native.Nat.{ℕ, _+_, _≤_}
+use Prim.Native.Nat.{ℕ, suc, _≤_, _<_}
 use native.Mathlib.Omega.{arith}
 use lib.Dec.{ltb}
-use lib.ListN.{length, take, length-append}
+use lib.ListN.{length, getD, take, length-append}
 use lib.Seq.{sets, length-sets}
 use borrow.Author.Tests.{le-ltb}
-use Rattle.number.specs.Refusal.{tooShort}
+use Rattle.number.specs.Refusal.{tooShort, wrongLength}
 use Rattle.store.specs.Log.{places}
 use Rattle.text.specs.Put.{Put}
+use Rattle.text.specs.Text.{refusalLine}
 use Rattle.text.proofs.Laws.{decimal-length, refusal-length}
 use Rattle.text.proofs.Putting.{put-front}
 use Rattle.schedule.specs.Record.{longest}
 use Rattle.schedule.specs.Schedule.{Reading, Accepted, Refused, readSchedule, stepsBytes}
-use Rattle.kind.proofs.Numbers.{header-widths}
-use Rattle.schedule.proofs.Laws.{header-is, header-size}
+use Rattle.schedule.proofs.Laws.{header-size}
 use Rattle.schedule.proofs.Reading.{SaysWhole, read-says, header-more, steps-few}
 use Rattle.rules.specs.Run.{reports, after}
+use Rattle.rules.proofs.Room.{after-room}
 use Rattle.passes.specs.Pass.{freshOf, stepBytes}
 use Rattle.passes.proofs.Passed.{bytes-length}
-use Rattle.listing.specs.Types.{Step, Header, Written}
-use Rattle.listing.specs.Listing.{stepLines, endLines, readingText, listing, longestText, ListingFits, listAnswers, listLeaves}
+use Rattle.passes.proofs.Begun.{calls-most, run-calls}
+use Rattle.tail.proofs.TailRange.{n-in-range}
+use Rattle.form.specs.Form.{wide, tailAt}
+use Rattle.start.specs.Start.{mostCalls, startRelease, readFrom}
+use Rattle.start.proofs.Taken.{ranged, few-calls}
+use Rattle.start.proofs.Kept.{RestSays, says}
+use Rattle.listing.specs.Types.{Kind, Step, Header, Release, Written}
+use Rattle.listing.specs.Listing.{stepLines, endLines, readingText, listing, listingFrom, longestText, ListingFits, textAnswer, textLeft}
 use Rattle.lines.proofs.LineLaws.{lines-few}
 use Rattle.listing.proofs.Laws.{lines-reports, end-few}
-use Rattle.listing.proofs.Listed.{run-n}
-use Rattle.passes.proofs.Begun.{run-calls}
 
--- a run over fewer steps than the longest schedule has bytes
+-- a run over no more steps than the longest schedule has bytes
 
-run-fits : (h : Header) (steps : List Step) → h .n ≤ places → length steps + 3 ≤ longest → length (readingText (Accepted h steps)) ≤ longestText
-run-fits h steps small few =
-    let lines = lines-few 1 (stepBytes (freshOf h) steps) (omega (arith, bytes-length (freshOf h) steps)) in
-    let last = end-few (after (freshOf h) steps) (run-n h steps small) (λ p. omega (arith, run-calls h steps p)) in
+run-fits : (start : Header → Release) (h : Header) (steps : List Step) → after (start h) steps .n ≤ places → ((p : ℕ) → getD (after (start h) steps .calls) p 0 < 100000)
+    → length steps ≤ longest → length (readingText start (Accepted h steps)) ≤ longestText
+run-fits start h steps small few short =
+    let lines = lines-few 1 (stepBytes (start h) steps) (omega (arith, bytes-length (start h) steps)) in
+    let last = end-few (after (start h) steps) small few in
     omega (
       arith,
-      length-append (stepLines 1 (reports (freshOf h) steps)) (endLines (after (freshOf h) steps)),
-      ap length (lines-reports 1 (reports (freshOf h) steps)),
-      bytes-length (freshOf h) steps,
+      length-append (stepLines 1 (reports (start h) steps)) (endLines (after (start h) steps)),
+      ap length (lines-reports 1 (reports (start h) steps)),
+      bytes-length (start h) steps,
     )
 
-pub listing-fits : ListingFits
-listing-fits schedule = go (readSchedule schedule) (read-says schedule)
+refusal-fits : (k place : ℕ) → k ≤ wrongLength → place ≤ longest → length (refusalLine k place) ≤ longestText
+refusal-fits k place number near =
+    omega (arith, refusal-length k place, decimal-length 5 k (omega arith) (omega arith), decimal-length 5 place (omega arith) (omega arith))
+
+whole-fits : (schedule : List ℕ) → length (listing schedule) ≤ longestText
+whole-fits schedule = go (readSchedule schedule) (read-says schedule)
   where
-    go : (x : Reading) → SaysWhole schedule x → length (readingText x) ≤ longestText
+    go : (x : Reading) → SaysWhole schedule x → length (readingText freshOf x) ≤ longestText
     go (Accepted h steps) y =
-        run-fits h steps (header-size h (y .header) .1)
-        (omega (arith, y .long, steps-few steps, header-more h (stepsBytes steps), header-widths (h .kind) (header-is h (y .header)), y .short))
-    go (Refused k place) y =
-        omega (arith, y .number, y .near, refusal-length k place, decimal-length 5 k (omega arith) (omega arith), decimal-length 5 place (omega arith) (omega arith))
+        run-fits freshOf h steps (rw (after-room (freshOf h) steps .same-n) (header-size h (y .header) .1))
+        (λ p. omega (arith, run-calls h steps p, y .long, header-more h (stepsBytes steps), y .short))
+        (omega (arith, y .long, steps-few steps, header-more h (stepsBytes steps), y .short))
+    go (Refused k place) y = refusal-fits k place (omega (arith, y .number)) (y .near)
 
--- In such a text a listing is never refused, and stands at the front
+from-fits : (tail bytes : List ℕ) → length (listingFrom tail bytes) ≤ longestText
+from-fits tail bytes = go (readFrom tail bytes) (says tail bytes)
+  where
+    go : (x : Reading) → RestSays tail bytes x → length (readingText (λ _. startRelease tail) x) ≤ longestText
+    go (Accepted h steps) y =
+        run-fits (λ _. startRelease tail) h steps
+        (omega (arith, after-room (startRelease tail) steps .same-n, n-in-range Kind.WideHeader (suc mostCalls) (tailAt wide tail) (ranged Kind.WideHeader tail (y .tail-taken)) .1))
+        (λ p. omega (arith, calls-most (startRelease tail) steps p, few-calls Kind.WideHeader tail (y .tail-taken) p, y .long, y .short))
+        (omega (arith, y .long, steps-few steps, y .short))
+    go (Refused k place) y = refusal-fits k place (y .number) (y .near)
 
-module _ (text schedule : List ℕ) (room : longestText ≤ length text) where
-  fits : ltb (length text) (length (listing schedule)) ≡ false
-  fits = le-ltb (length text) (length (listing schedule)) (omega (arith, listing-fits schedule))
+pub listing-fits : ListingFits
+listing-fits = record { whole = whole-fits; from = from-fits }
 
-  done : listAnswers (length text) schedule ≡ Written.Done (length (listing schedule))
-  done = ap (λ b. cond b (Written.Refused tooShort (length (listing schedule))) (Written.Done (length (listing schedule)))) fits
+-- In such a text a listing is never refused, and stands at the front. `bytes` are the listing's
 
-  pub never-refused : (k place : ℕ) → Written.Refused k place ≡ listAnswers (length text) schedule → ⊥
+module _ (text bytes : List ℕ) (few : length bytes ≤ longestText) (room : longestText ≤ length text) where
+  fits : ltb (length text) (length bytes) ≡ false
+  fits = le-ltb (length text) (length bytes) (omega arith)
+
+  done : textAnswer (length text) bytes ≡ Written.Done (length bytes)
+  done = ap (λ b. cond b (Written.Refused tooShort (length bytes)) (Written.Done (length bytes))) fits
+
+  pub never-refused : (k place : ℕ) → Written.Refused k place ≡ textAnswer (length text) bytes → ⊥
   never-refused k place answer =
-      let other : Written.Refused k place ≡ Written.Done (length (listing schedule)) = answer ∙ done in
+      let other : Written.Refused k place ≡ Written.Done (length bytes) = answer ∙ done in
       let z : _≡_ {A = ℕ} 0 1 = cc (other) in
       omega arith
 
-  pub listed-whole : (after : List ℕ) (end : ℕ) → Written.Done end ≡ listAnswers (length text) schedule → after ≡ listLeaves text schedule
-      → (end ≤ length after) × (take end after ≡ listing schedule)
+  pub listed-put : (after : List ℕ) (end : ℕ) → Written.Done end ≡ textAnswer (length text) bytes → after ≡ textLeft text bytes → Put text 0 bytes end after
+  listed-put after end answer left =
+      let same : Written.Done end ≡ Written.Done (length bytes) = answer ∙ done in
+      let long : end ≡ length bytes = cc (same) in
+      record { ends = omega arith; leaves = left ∙ ap (λ b. cond b text (sets text 0 bytes)) fits }
+
+  pub listed-whole : (after : List ℕ) (end : ℕ) → Written.Done end ≡ textAnswer (length text) bytes → after ≡ textLeft text bytes
+      → (end ≤ length after) × (take end after ≡ bytes)
   listed-whole after end answer left =
-      let same : Written.Done end ≡ Written.Done (length (listing schedule)) = answer ∙ done in
-      let long : end ≡ length (listing schedule) = cc (same) in
-      let put : Put text 0 (listing schedule) end after = record { ends = omega arith; leaves = left ∙ ap (λ b. cond b text (sets text 0 (listing schedule))) fits } in (
-        omega (arith, listing-fits schedule, ap length (put .leaves) ∙ length-sets text 0 (listing schedule)),
-        put-front put (omega (arith, listing-fits schedule)),
-      )
+      let put = listed-put after end answer left in
+      (omega (arith, put .ends, ap length (put .leaves) ∙ length-sets text 0 bytes), put-front put (omega arith))

@@ -1,5 +1,5 @@
 -- What is left in a text, by the parts put into it and by what the first pass answered. Assumes nothing.
-use mathlib.Core.Path.{_≡_, refl, sym, ap, ap₂, _∙_}
+use mathlib.Core.Path.{_≡_, refl, sym, ap, _∙_}
 use mathlib.Core.List.{List, _++_}
 use Prim.Native.Nat.{ℕ, _+_, _≤_, _<_}
 use native.Mathlib.Omega.{arith}
@@ -10,20 +10,18 @@ use Rattle.number.specs.Refusal.{tooShort}
 use Rattle.text.specs.Put.{Put}
 use Rattle.text.proofs.Putting.{put-front}
 use Rattle.store.specs.Log.{places}
-use Rattle.schedule.specs.Schedule.{Reading, Accepted, Refused, readSchedule}
+use Rattle.schedule.specs.Schedule.{Reading}
 use Rattle.schedule.proofs.Laws.{header-size}
 use Rattle.rules.specs.Run.{reports, after}
 use Rattle.rules.proofs.Room.{after-room}
-use Rattle.state.specs.Fields.{fields, releaseIn}
-use Rattle.state.proofs.Filling.{release-in}
-use Rattle.passes.specs.Pass.{validated, stepsOf, freshOf, stepBytes}
-use Rattle.passes.proofs.Passed.{passed, bytes-length}
-use Rattle.passes.proofs.Begun.{run-places, run-calls}
-use Rattle.listing.specs.Types.{Step, Header, Written, Release, Store, Validated}
+use Rattle.state.specs.Fields.{releaseIn}
+use Rattle.passes.specs.Pass.{validated, readingFrom, stepsOf, stepBytes, Ready}
+use Rattle.passes.proofs.Passed.{counted, refused, bytes-length}
+use Rattle.passes.proofs.Begun.{left-calls}
+use Rattle.listing.specs.Types.{Header, Written, Release, Store, Validated}
 use Rattle.text.specs.Text.{refusalLine}
-use Rattle.listing.specs.Listing.{endLines, readingText, listing}
+use Rattle.listing.specs.Listing.{endLines, readingText, textAnswer, textLeft}
 use Rattle.lines.specs.Lines.{byteLines}
-use Rattle.listing.specs.Bytes.{textAnswer, textLeft}
 use Rattle.listing.proofs.Laws.{lines-reports, end-few}
 
 -- A text that is too short for some bytes, and one that has room for them
@@ -36,46 +34,41 @@ module _ (text bytes : List ℕ) (needed : ℕ) (e : needed ≡ length bytes) wh
       → (Written.Done needed ≡ textAnswer (length text) bytes) × (after ≡ textLeft text bytes)
   text-fits h p = rw e (simp (le-ltb (length text) (length bytes) (omega arith)) (refl, p .leaves))
 
--- a run keeps its header's n
-pub run-n : (h : Header) (steps : List Step) → h .n ≤ places → after (freshOf h) steps .n ≤ places
-run-n h steps small = rw (after-room (freshOf h) steps .same-n) small
+-- Steps that were validated, from any release
 
--- A schedule that was validated, and one that was refused
+module _ {s : List ℕ} {start : ℕ} {h : Header} {m : ℕ} {l : List ℕ} {store : Store} (g : Ready s start h m l store) where
+  abbrev r : Release
+  r = releaseIn l store
 
-module _ (s : List ℕ) (h : Header) (m : ℕ) (c : validated (readSchedule s) ≡ Validated.Steps h m) where
-  -- the release that its steps leave has short last lines
-  pub run-small : (r : Release) → r ≡ after (freshOf h) (stepsOf (readSchedule s)) → (r .n ≤ places) × (length (endLines r) ≤ 305)
-  run-small r e =
-      let x = passed s h m c in
-      let steps : List Step = stepsOf (readSchedule s) in
-      let small = run-n h steps (header-size h (x .header) .1) in
-      rw e (small, end-few (after (freshOf h) steps) small (λ p. omega (arith, run-calls h steps p, x .long, x .few, x .short)))
+  abbrev x : Reading
+  x = readingFrom s h start
 
-  -- the numbers and the store that its steps leave represent that release
-  pub run-release : (l : List ℕ) (store : Store) → l ≡ fields (after (freshOf h) (stepsOf (readSchedule s))) → store ≡ after (freshOf h) (stepsOf (readSchedule s)) .store
-      → releaseIn l store ≡ after (freshOf h) (stepsOf (readSchedule s))
-  run-release l store p q =
-      let x = passed s h m c in
-      let steps : List Step = stepsOf (readSchedule s) in
-      ap₂ releaseIn p q ∙ release-in (after (freshOf h) steps) (run-places h steps) (λ p. omega (arith, run-calls h steps p, x .long, x .few, x .short))
+  -- the release that the steps leave has short last lines
+  pub run-small : (end : Release) → end ≡ after r (stepsOf x) → (end .n ≤ places) × (length (endLines end) ≤ 305)
+  run-small end e =
+      let small : after r (stepsOf x) .n ≤ places = omega (arith, after-room r (stepsOf x) .same-n, g .same-n, header-size h (g .header)) in
+      rw e (small, end-few (after r (stepsOf x)) small (λ p. omega (arith, left-calls g p)))
 
   -- the step bytes, at the front of a buffer with room for them
-  pub run-bytes : (before after : List ℕ) → m ≤ length before → after ≡ sets before 0 (stepBytes (freshOf h) (stepsOf (readSchedule s)))
-      → take m after ≡ stepBytes (freshOf h) (stepsOf (readSchedule s))
+  pub run-bytes : (before after : List ℕ) → m ≤ length before → after ≡ sets before 0 (stepBytes r (stepsOf x)) → take m after ≡ stepBytes r (stepsOf x)
   run-bytes before after room e =
-      let long = bytes-length (freshOf h) (stepsOf (readSchedule s)) ∙ passed s h m c .long in
-      let p : Put before 0 (stepBytes (freshOf h) (stepsOf (readSchedule s))) m after = record { ends = omega arith; leaves = e } in
+      let long = bytes-length r (stepsOf x) ∙ counted x h m (g .steps) .long in
+      let p : Put before 0 (stepBytes r (stepsOf x)) m after = record { ends = omega arith; leaves = e } in
       put-front p (omega arith)
 
-  pub listed : byteLines 1 (stepBytes (freshOf h) (stepsOf (readSchedule s))) ++ endLines (after (freshOf h) (stepsOf (readSchedule s))) ≡ listing s
+  pub listed : byteLines 1 (stepBytes r (stepsOf x)) ++ endLines (after r (stepsOf x)) ≡ readingText (λ _. r) x
   listed =
-      let steps : List Step = stepsOf (readSchedule s) in
-      ap (λ l. l ++ endLines (after (freshOf h) steps)) (lines-reports 1 (reports (freshOf h) steps))
-      ∙ sym (ap readingText (passed s h m c .accepted))
+      ap (λ l. l ++ endLines (after r (stepsOf x))) (lines-reports 1 (reports r (stepsOf x)))
+      ∙ sym (ap (readingText (λ _. r)) (counted x h m (g .steps) .accepted))
 
-pub refused : (x : Reading) (k place : ℕ) → validated x ≡ Validated.Refused k place → refusalLine k place ≡ readingText x
-refused (Accepted h steps) k place c = let z : _≡_ {A = ℕ} 0 1 = cc in absurd (omega arith)
-refused (Refused j at) k place c =
-    let number : k ≡ j = cc in
-    let value : place ≡ at = cc in
-    ap₂ refusalLine number value
+-- A reading, by what the first pass answered
+
+module _ (start : Header → Release) (x : Reading) where
+  pub refused-text : (k place : ℕ) → validated x ≡ Validated.Refused k place → refusalLine k place ≡ readingText start x
+  refused-text k place c = sym (ap (readingText start) (refused x k place c))
+
+  -- a run from the release that is there already has the same text
+  pub text-from : (h : Header) (m : ℕ) → validated x ≡ Validated.Steps h m → (r : Release) → r ≡ start h → readingText (λ _. r) x ≡ readingText start x
+  text-from h m c r e =
+      let a = counted x h m c .accepted in
+      ap (λ (s : Release). readingText (λ _. s) x) e ∙ ap (readingText (λ _. start h)) a ∙ sym (ap (readingText start) a)

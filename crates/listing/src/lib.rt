@@ -1,17 +1,23 @@
-// The listing of a schedule, in a lent text: a line a step, the counts of calls and the logs; or the refusal.
+// The listing of a schedule, or of steps that go on from a tail, in a lent text: a line a step, the counts of calls and the logs; or the refusal.
+use kind::Kind;
 use lines::lines_length;
 use lines::put_counts;
 use lines::put_lines;
 use lines::put_logs;
 use number::TOO_SHORT;
 use passes::Validated;
-use passes::run_fresh;
+use passes::first_step;
+use passes::run_steps;
 use passes::validate;
 use rules::Release;
 use schedule::Header;
 use schedule::LONGEST;
+use start::read_start;
+use start::validate_from;
+use state::FIELDS;
 use state::fresh;
 use state::release;
+use store::Store;
 use text::put;
 use text::put_refusal;
 use writer::Written;
@@ -23,16 +29,14 @@ ghost use Rattle.text.specs.Put.{Put};
 ghost use Rattle.text.specs.Text.{refusalLine};
 ghost use Rattle.store.specs.Log.{places};
 ghost use Rattle.schedule.specs.Record.{longest};
-ghost use Rattle.schedule.specs.Schedule.{readSchedule};
 ghost use Rattle.writer.specs.Writer.{writtenHands};
-ghost use Rattle.passes.specs.Pass.{validated};
-ghost use Rattle.passes.specs.declared.Validated.{Validated};
-ghost use Rattle.listing.specs.Listing.{endLines, listAnswers, listHands, listLeaves};
+ghost use Rattle.state.specs.Fields.{releaseIn};
+ghost use Rattle.passes.specs.Pass.{readingFrom, Ready};
 ghost use Rattle.lines.specs.Lines.{byteLines};
-ghost use Rattle.listing.specs.Bytes.{textAnswer, textLeft};
+ghost use Rattle.listing.specs.Listing.{endLines, readingText, textAnswer, textLeft, listAnswers, listHands, listLeaves, listFromAnswers, listFromHands, listFromLeaves};
 
 // No listing has more bytes than this.
-pub const LONGEST_TEXT: usize = 655605;
+pub const LONGEST_TEXT: usize = 655665;
 
 // Room for the last two lines, and for a refusal.
 const LAST: usize = 320;
@@ -67,16 +71,23 @@ fn put_listing(bytes: &[u8], last: &[u8], text: &mut [u8]) -> Written
     Written::Done(needed)
 }
 
-// The listing of a schedule that was validated.
-fn list_steps(schedule: &[u8], header: Header, steps: usize, text: &mut [u8]) -> Written
-    requires { ⌜ validated (readSchedule (now schedule)) ≡ Validated.Steps header steps ⌝ }
-    ensures { λ x. ⌜ (x ≡ listAnswers (length (now (text .entry))) (now (schedule .entry)))
-        × (now (text .exit) ≡ listLeaves (now (text .entry)) (now (schedule .entry))) ⌝ }
+// The listing of steps that were validated. The release that they start from is lent as its numbers, and given as its store.
+fn list_steps(
+    schedule: &[u8],
+    start: usize,
+    header: Header,
+    steps: usize,
+    numbers: &mut [u32; FIELDS],
+    store: Store,
+    text: &mut [u8],
+) -> Written
+    requires { ⌜ Ready (now schedule) start header steps (now numbers) store × (length (now schedule) ≤ longest) ⌝ }
+    ensures { λ x. ⌜ (x ≡ textAnswer (length (now (text .entry))) (readingText (λ _. releaseIn (now (numbers .entry)) store) (readingFrom (now (schedule .entry)) header start)))
+        × (now (text .exit) ≡ textLeft (now (text .entry)) (readingText (λ _. releaseIn (now (numbers .entry)) store) (readingFrom (now (schedule .entry)) header start))) ⌝ }
 {
     let mut bytes = [0u8; LONGEST];
-    let mut fields = fresh(header.n, header.votes);
-    let store = run_fresh(schedule, header, steps, &mut fields, &mut bytes);
-    let end = release(&fields, store);
+    let left = run_steps(schedule, start, header, steps, numbers, store, &mut bytes);
+    let end = release(numbers, left);
     let mut last = [0u8; LAST];
     let length = put_end(&mut last, end);
     put_listing(&bytes[..steps], &last[..length], text)
@@ -100,7 +111,37 @@ pub fn list(schedule: &[u8], text: &mut [u8]) -> Written
 {
     let first = validate(schedule);
     match first {
-        Validated::Steps(header, steps) => list_steps(schedule, header, steps, text),
+        Validated::Steps(header, steps) => {
+            let start = first_step(header);
+            let mut numbers = fresh(header.n, header.votes);
+            list_steps(
+                schedule,
+                start,
+                header,
+                steps,
+                &mut numbers,
+                Store::empty(),
+                text,
+            )
+        }
+        Validated::Refused(k, place) => list_refusal(k, place, text),
+    }
+}
+
+// Lists steps that go on from a tail of 320 bytes. Answers the length written; a text that is too short is left as it was.
+pub fn list_from(tail: &[u8], rest: &[u8], text: &mut [u8]) -> Written
+    ensures { λ x. ⌜ (x ≡ listFromAnswers (length (now (text .entry))) (now (tail .entry)) (now (rest .entry)))
+        × (writtenHands x ≡ listFromHands (length (now (text .entry))) (now (tail .entry)) (now (rest .entry)))
+        × (now (text .exit) ≡ listFromLeaves (now (text .entry)) (now (tail .entry)) (now (rest .entry))) ⌝ }
+{
+    let start = read_start(tail, Kind::WideHeader);
+    let first = validate_from(start.refusal, start.header, rest);
+    match first {
+        Validated::Steps(header, steps) => {
+            let mut numbers = start.numbers;
+            let store = start.store;
+            list_steps(rest, 0, header, steps, &mut numbers, store, text)
+        }
         Validated::Refused(k, place) => list_refusal(k, place, text),
     }
 }

@@ -1,34 +1,34 @@
 -- The counts in a tail are the due store calls that the rules count over the steps. Assumes nothing.
-use mathlib.Core.Path.{_≡_, refl, sym, ap, _∙_}
+use mathlib.Core.Path.{_≡_, sym, ap, _∙_}
 use mathlib.Core.Bool.{true}
 use mathlib.Core.List.{List}
-use Prim.Native.Nat.{ℕ, suc, _+_, _≤_}
+use Prim.Native.Nat.{ℕ, suc, _+_}
 use native.Mathlib.Omega.{arith}
 use native.Mathlib.Nat.{zero-add}
-use lib.ListN.{length, getD}
+use lib.ListN.{getD}
 use Rattle.number.proofs.Table.{getD-tabulate}
 use Rattle.store.specs.Log.{places}
 use Rattle.kind.specs.Step.{AllInRange}
-use Rattle.schedule.specs.Record.{headerInRange, longest}
-use Rattle.rules.specs.Run.{after, callsMade}
-use Rattle.rules.proofs.Agreement.{replicate-all}
+use Rattle.schedule.specs.Record.{headerInRange}
+use Rattle.rules.specs.Run.{after, Countable, callsMade}
 use Rattle.rules.proofs.Counts.{calls-counted}
 use Rattle.tail.specs.Tail.{tailOf}
 use Rattle.passes.specs.Pass.{freshOf}
+use Rattle.passes.proofs.Begun.{no-calls}
 use Rattle.form.specs.Form.{formOf, tailBytes, countAt}
 use Rattle.form.proofs.Kept.{tail-kept}
 use Rattle.marker.specs.Types.{Step, Header, Release, Tail}
 use Rattle.marker.specs.Demand.{CountsHold}
 use Rattle.marker.proofs.TailBytes.{run-fits}
 
-module _ (h : Header) (steps : List Step) (q : headerInRange h ≡ true) (a : AllInRange (h .n) steps) (short : length steps ≤ longest) where
+module _ (h : Header) (steps : List Step) (q : headerInRange h ≡ true) (a : AllInRange (h .n) steps) (few : Countable (after (freshOf h) steps .calls)) where
   pub counts-hold : CountsHold h steps (tailBytes (formOf (h .kind)) (tailOf (after (freshOf h) steps)))
   counts-hold p small =
       let r : Release = after (freshOf h) steps in
       let bytes : List ℕ = tailBytes (formOf (h .kind)) (tailOf r) in
-      let none : getD (freshOf h .calls) p 0 ≡ 0 = replicate-all (λ k. k ≡ 0) (suc places) p 0 refl in
+      let none = no-calls h p in
       sym (getD-tabulate (suc places) (countAt (formOf (h .kind)) bytes) p 0 (omega arith))
-      ∙ ap (λ (t : Tail). getD (t .calls) p 0) (tail-kept (formOf (h .kind)) (tailOf r) (run-fits h steps q a short))
+      ∙ ap (λ (t : Tail). getD (t .calls) p 0) (tail-kept (formOf (h .kind)) (tailOf r) (run-fits h steps q a few))
       ∙ calls-counted (freshOf h) steps p (omega arith)
       ∙ ap (λ k. k + callsMade p (freshOf h) steps) none
       ∙ zero-add (callsMade p (freshOf h) steps)

@@ -1,5 +1,5 @@
 -- Demand 3 and atomic commitment about the marker's own bytes, from those of the rules: the statements of specs/Demand.antt. Assumes nothing.
-use mathlib.Core.Path.{_≡_, refl, sym, ap₂, subst, _∙_}
+use mathlib.Core.Path.{_≡_, refl, sym, ap₂, subst, subst₂, _∙_}
 use mathlib.Core.Bool.{true}
 use mathlib.Core.List.{List, [], _∷_, _++_, map, List·Memᴰ, List·Memᴰ·head, List·Memᴰ·tail}
 use Prim.Native.Nat.{ℕ, zero, suc, _+_, _<_}
@@ -9,25 +9,29 @@ use lib.Seq.{split-at}
 use Rattle.store.specs.Log.{places}
 use Rattle.kind.specs.Step.{AllInRange}
 use Rattle.schedule.specs.Record.{headerInRange}
-use Rattle.schedule.specs.Schedule.{scheduleBytes}
+use Rattle.schedule.specs.Schedule.{readSchedule}
 use Rattle.schedule.proofs.Laws.{header-size, header-votes}
-use Rattle.schedule.proofs.RoundTrip.{steps-kept, read-in-range, few-steps}
+use Rattle.schedule.proofs.RoundTrip.{steps-kept, read-in-range, few-bytes}
 use Rattle.rules.specs.State.{firstOf}
 use Rattle.rules.specs.Report.{stepByte, outcomeIn}
 use Rattle.rules.specs.Step.{step}
-use Rattle.rules.specs.Run.{outcomes, after}
+use Rattle.rules.specs.Run.{outcomes, after, Countable}
 use Rattle.rules.specs.Demand.{Demand, EveryYes, SomeAbort}
 use Rattle.rules.proofs.Bytes.{byte-says}
 use Rattle.rules.proofs.Demand.{demand-holds}
 use Rattle.rules.proofs.History.{commitment-holds}
+use Rattle.state.proofs.Filling.{fresh-places}
+use Rattle.tail.specs.Tail.{tailOf}
 use Rattle.passes.specs.Pass.{freshOf, stepBytes}
 use Rattle.passes.proofs.Passed.{bytes-length}
+use Rattle.form.specs.Form.{formOf, tailBytes}
 use Rattle.marker.specs.Types.{Step, Header, Release, Outcome, Report}
-use Rattle.marker.specs.Demand.{Says, BytesHold, CommitmentSeen, ClosedHold, CountsHold, Marked, MarkedHolds, ListMarked}
+use Rattle.marker.specs.Demand.{Says, BytesHold, CommitmentSeen, ReportHolds, Marked, MarkedHolds, ListMarked}
 use Rattle.marker.proofs.Left.{ran, answers, steps-left, tail-left}
 use Rattle.marker.proofs.Steps.{byte-at, after-one-more}
 use Rattle.marker.proofs.Closed.{closed-holds}
 use Rattle.marker.proofs.Counts.{counts-hold}
+use Rattle.marker.proofs.TailBytes.{run-few}
 
 byte-outcome : (o : Outcome) (t : Report) → Says o (stepByte t) → t .outcome ≡ o
 byte-outcome o t e = sym (byte-says t .0) ∙ e
@@ -70,30 +74,36 @@ seen : (h : Header) (steps : List Step) → headerInRange h ≡ true → AllInRa
 seen h steps g q =
     rw (outcomes-said (freshOf h) steps) (commitment-holds places (h .n) (h .votes) (header-size h g .1) (header-votes h g) steps q)
 
+-- all of it, of the bytes that a run from fresh gives
+pub run-holds : (h : Header) (steps : List Step) → headerInRange h ≡ true → AllInRange (h .n) steps → Countable (after (freshOf h) steps .calls)
+    → ReportHolds h steps (stepBytes (freshOf h) steps) (tailBytes (formOf (h .kind)) (tailOf (after (freshOf h) steps)))
+run-holds h steps g q few =
+    record {
+      demand = of-steps h steps (demand-holds places (h .n) (h .votes) (header-size h g .1) steps q);
+      commitment = seen h steps g q;
+      closed = closed-holds h steps (header-size h g .1) q;
+      counts = counts-hold h steps g q few;
+    }
+
 pub marked-holds : MarkedHolds
 marked-holds report schedule written e =
-    let x = ran report schedule written e in
-    let q = read-in-range schedule (x .header) (x .steps) (x .accepted) in
-    let d = demand-holds places (x .header .n) (x .header .votes) (header-size (x .header) (q .0) .1) (x .steps) (q .1) in
+    let x = ran report (readSchedule schedule) written e in
+    let h : Header = x .header in
+    let q = read-in-range schedule h (x .steps) (x .accepted) in
+    let has = fresh-places (h .n) (h .votes) in
+    let few = run-few h (x .steps) (few-bytes schedule h (x .steps) (x .accepted)) in
     subst (Marked report schedule) (sym (x .length-written)) (record {
-      header = x .header;
+      header = h;
       steps = x .steps;
       accepted = x .accepted;
       length-written = refl;
-      bytes =
-          subst (BytesHold (x .header) (x .steps)) (sym (steps-left report schedule (x .header) (x .steps) (x .accepted) (x .room))) (of-steps (x .header) (x .steps) d);
-      commitment =
-          subst (CommitmentSeen (x .header) (x .steps)) (sym (steps-left report schedule (x .header) (x .steps) (x .accepted) (x .room)))
-          (seen (x .header) (x .steps) (q .0) (q .1));
-      closed =
-          subst (ClosedHold (x .header) (x .steps)) (sym (steps-left report schedule (x .header) (x .steps) (x .accepted) (x .room)))
-          (closed-holds (x .header) (x .steps) (header-size (x .header) (q .0) .1) (q .1));
-      counts =
-          subst (CountsHold (x .header) (x .steps)) (sym (tail-left report schedule (x .header) (x .steps) (x .accepted) (x .room)))
-          (counts-hold (x .header) (x .steps) (q .0) (q .1) (few-steps schedule (x .header) (x .steps) (x .accepted)));
+      holds =
+          subst₂ (ReportHolds h (x .steps)) (sym (steps-left freshOf report (x .accepted) has (x .room))) (sym (tail-left freshOf report (x .accepted) has (x .room)))
+          (run-holds h (x .steps) (q .0) (q .1) few);
     })
 
 pub list-marked : ListMarked
 list-marked h steps g q fits report room =
     let e = steps-kept h steps g q fits in
-    (answers report (scheduleBytes h steps) h steps e room, steps-left report (scheduleBytes h steps) h steps e room)
+    let has = fresh-places (h .n) (h .votes) in
+    (answers freshOf report e has room, steps-left freshOf report e has room)

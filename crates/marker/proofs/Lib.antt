@@ -6,4 +6,5 @@ pub mod Closed
 pub mod Counts
 pub mod Demand
 pub mod Headers
+pub mod Moved
 pub mod Cases

@@ -5,8 +5,8 @@ use mathlib.Core.Path.{_≡_}
 use mathlib.Core.Logic.{_↔_, _≢_}
 use mathlib.Core.Bool.{true}
 use mathlib.Core.List.{List, _++_, map}
-use Prim.Native.Nat.{ℕ, suc, _+_, _-_, _≤_, _<_}
-use lib.ListN.{length, getD, take, drop}
+use Prim.Native.Nat.{ℕ, suc, _+_, _≤_, _<_}
+use lib.ListN.{length, getD, take}
 use Rattle.mask.specs.Mask.{has, full}
 use Rattle.store.specs.Log.{places}
 use Rattle.kind.specs.Step.{AllInRange}
@@ -22,7 +22,7 @@ use Rattle.rules.specs.History.{KeepsGoing, history}
 use Rattle.passes.specs.Pass.{freshOf, stepBytes}
 use Rattle.marker.specs.Types.{Step, Header, Written, Outcome}
 use Rattle.form.specs.Form.{formOf, countAt}
-use Rattle.marker.specs.Report.{tailSize}
+use Rattle.marker.specs.Report.{tailSize, stepsLeft, tailLeft}
 use Rattle.marker.specs.Run.{runAnswers, runLeaves}
 
 -- A decision is reported by a step whose byte says commit or abort
@@ -60,23 +60,19 @@ pub record ClosedHold (h : Header) (steps : List Step) (bytes : List ℕ) : Type
 abbrev pub CountsHold : Header → List Step → List ℕ → Type 0
 CountsHold h steps tail = (p : ℕ) → p ≤ places → countAt (formOf (h .kind)) tail p ≡ callsMade p (freshOf h) steps
 
--- what a run that wrote so many bytes left: its steps' bytes, and its tail
-
-abbrev pub stepsLeft : Header → List ℕ → List ℕ → ℕ → List ℕ
-stepsLeft h report schedule written = take (written - tailSize h) (runLeaves report schedule)
-
-abbrev pub tailLeft : Header → List ℕ → List ℕ → ℕ → List ℕ
-tailLeft h report schedule written = take (tailSize h) (drop (written - tailSize h) (runLeaves report schedule))
+-- All of it, of the step bytes and the tail of a report
+pub record ReportHolds (h : Header) (steps : List Step) (bytes tail : List ℕ) : Type 0 where
+  pub demand : BytesHold h steps bytes
+  pub commitment : CommitmentSeen h steps bytes
+  pub closed : ClosedHold h steps bytes
+  pub counts : CountsHold h steps tail
 
 pub record Marked (report schedule : List ℕ) (written : ℕ) : Type 0 where
   pub header : Header
   pub steps : List Step
   pub accepted : readSchedule schedule ≡ Accepted header steps
   pub length-written : written ≡ length steps + tailSize header
-  pub bytes : BytesHold header steps (stepsLeft header report schedule written)
-  pub commitment : CommitmentSeen header steps (stepsLeft header report schedule written)
-  pub closed : ClosedHold header steps (stepsLeft header report schedule written)
-  pub counts : CountsHold header steps (tailLeft header report schedule written)
+  pub holds : ReportHolds header steps (stepsLeft header (runLeaves report schedule) written) (tailLeft header (runLeaves report schedule) written)
 
 -- every run that is accepted
 abbrev pub MarkedHolds : Type 0
@@ -88,4 +84,4 @@ ListMarked =
     (h : Header) (steps : List Step) → headerInRange h ≡ true → AllInRange (h .n) steps → length (scheduleBytes h steps) ≤ longest
     → (report : List ℕ) → length steps + tailSize h ≤ length report
     → (runAnswers (length report) (scheduleBytes h steps) ≡ Written.Done (length steps + tailSize h))
-    × (stepsLeft h report (scheduleBytes h steps) (length steps + tailSize h) ≡ stepBytes (freshOf h) steps)
+    × (stepsLeft h (runLeaves report (scheduleBytes h steps)) (length steps + tailSize h) ≡ stepBytes (freshOf h) steps)

@@ -10,8 +10,8 @@ use Rattle.schedule.specs.Record.{headerInRange, longest}
 use Rattle.schedule.specs.Schedule.{stepsBytes, scheduleBytes}
 use Rattle.form.specs.Form.{narrow, wide, tailAt}
 use Rattle.marker.specs.Types.{Kind, Step, Header, Written}
-use Rattle.marker.specs.Run.{runAnswers}
-use Rattle.marker.specs.Demand.{stepsLeft, tailLeft}
+use Rattle.marker.specs.Report.{stepsLeft, tailLeft}
+use Rattle.marker.specs.Run.{runAnswers, runLeaves}
 
 abbrev pub narrowHeader : ℕ → ℕ → Header
 narrowHeader n votes = record { kind = Kind.Header; n = n; votes = votes }
@@ -27,10 +27,10 @@ pub record HeadersAgree (n votes : ℕ) (steps : List Step) (report : List ℕ) 
   pub narrow-written : runAnswers (length report) (scheduleBytes (narrowHeader n votes) steps) ≡ Written.Done (length steps + 59)
   pub wide-written : runAnswers (length report) (scheduleBytes (wideHeader n votes) steps) ≡ Written.Done (length steps + 320)
   -- the step bytes that they leave, and the fields of their tails
-  pub steps-same : stepsLeft (narrowHeader n votes) report (scheduleBytes (narrowHeader n votes) steps) (length steps + 59)
-      ≡ stepsLeft (wideHeader n votes) report (scheduleBytes (wideHeader n votes) steps) (length steps + 320)
-  pub tail-same : tailAt narrow (tailLeft (narrowHeader n votes) report (scheduleBytes (narrowHeader n votes) steps) (length steps + 59))
-      ≡ tailAt wide (tailLeft (wideHeader n votes) report (scheduleBytes (wideHeader n votes) steps) (length steps + 320))
+  pub steps-same : stepsLeft (narrowHeader n votes) (runLeaves report (scheduleBytes (narrowHeader n votes) steps)) (length steps + 59)
+      ≡ stepsLeft (wideHeader n votes) (runLeaves report (scheduleBytes (wideHeader n votes) steps)) (length steps + 320)
+  pub tail-same : tailAt narrow (tailLeft (narrowHeader n votes) (runLeaves report (scheduleBytes (narrowHeader n votes) steps)) (length steps + 59))
+      ≡ tailAt wide (tailLeft (wideHeader n votes) (runLeaves report (scheduleBytes (wideHeader n votes) steps)) (length steps + 320))
 
 -- for every header 01 in range and steps in range under it, where the longer schedule and the longer report have room
 abbrev pub SameUnderBoth : Type 0

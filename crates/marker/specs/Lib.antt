@@ -3,4 +3,5 @@ pub mod Report
 pub mod Run
 pub mod Demand
 pub mod Headers
+pub mod Moved
 pub mod Cases

@@ -49,3 +49,7 @@ wrongRecord = 8
 -- Log refused by its rule
 abbrev pub refusedByRule : ℕ
 refusedByRule = 9
+
+-- request 2026-04: a tail of another length
+abbrev pub wrongLength : ℕ
+wrongLength = 10

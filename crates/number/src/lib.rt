@@ -18,3 +18,5 @@ pub const NOT_DUE: u32 = 7;
 pub const WRONG_RECORD: u32 = 8;
 
 pub const REFUSED_BY_RULE: u32 = 9;
+
+pub const WRONG_LENGTH: u32 = 10;

@@ -8,7 +8,7 @@ use native.Mathlib.Omega.{arith}
 use native.Mathlib.Numerals.{add-one}
 use lib.ListN.{length, getD, set, drop, length-set}
 use lib.Seq.{sets}
-use Rattle.number.proofs.Table.{length-tabulate, getD-tabulate}
+use Rattle.number.proofs.Table.{getD-tabulate}
 use Rattle.store.specs.Log.{places}
 use Rattle.kind.specs.Step.{inRange}
 use Rattle.schedule.specs.Record.{recordStep, headerInRange}
@@ -18,9 +18,8 @@ use Rattle.schedule.proofs.Laws.{header-size}
 use Rattle.schedule.proofs.Records.{read-untested}
 use Rattle.rules.specs.Report.{reportByte, stepByte}
 use Rattle.rules.specs.Step.{step}
-use Rattle.rules.specs.State.{types}
 use Rattle.rules.specs.Run.{after, countLimit}
-use Rattle.state.specs.Fields.{fields, HasPlaces, messageIn, siteIn, countIn, releaseIn}
+use Rattle.state.specs.Fields.{fields, HasPlaces, countIn, releaseIn}
 use Rattle.state.proofs.Parts.{count-in}
 use Rattle.state.proofs.Filling.{step-places}
 use Rattle.call.specs.Steps.{Steps, CanCount}
@@ -29,6 +28,7 @@ use Rattle.rules.proofs.Counts.{calls-by-bytes}
 use Rattle.rules.proofs.Room.{caused-room}
 use Rattle.passes.specs.Types.{Step, Header, Record, Before, Read, Validated, Store, Release, Outcome}
 use Rattle.passes.specs.Pass.{readingFrom, validatedAfter, stepsOf, stepBytes, Ready, Leaves}
+use Rattle.passes.proofs.Begun.{in-places}
 use Rattle.passes.proofs.Reading.{First, read-first, read-refused, none-left, count-more, one-more, step-first}
 
 -- before step i, whose record begins at `at`, from a release r₀ on: `l` are the numbers of the release then, beside its store. Three times a count
@@ -49,19 +49,19 @@ pub record Going (s : List ℕ) (h : Header) (start count : ℕ) (r₀ : Release
   pub ends : after release (stepsOf (readingFrom s h at)) ≡ after r₀ (stepsOf (readingFrom s h start))
   pub report : sets out i (stepBytes release (stepsOf (readingFrom s h at))) ≡ sets out₀ 0 (stepBytes r₀ (stepsOf (readingFrom s h start)))
 
-pub set-out : (s : List ℕ) (start : ℕ) (h : Header) (count : ℕ) (out l : List ℕ) (store : Store) → Ready s start h count (length out) l store
-    → Going s h start count (releaseIn l store) out out start 0 l store
-set-out s start h count out l store g =
+pub set-out : (s : List ℕ) (start : ℕ) (h : Header) (count : ℕ) (out l : List ℕ) (store : Store) → Ready s start h count l store
+    → count ≤ length out → Going s h start count (releaseIn l store) out out start 0 l store
+set-out s start h count out l store g enough =
     record {
       within = g .within;
       few = omega arith;
       same = refl;
-      room = g .enough;
+      room = enough;
       header = g .header;
       release = releaseIn l store;
       numbers = g .numbers;
       stored = refl;
-      has-places = record { sites = length-tabulate places (siteIn l); messages = length-tabulate types (messageIn l); calls = length-tabulate (suc places) (countIn l) };
+      has-places = in-places l store;
       same-n = g .same-n;
       calls = λ p h. rw (getD-tabulate (suc places) (countIn l) p 0 h) (g .countable p h);
       left = g .steps;

@@ -1,4 +1,4 @@
 pub mod Reading
-pub mod Going
 pub mod Passed
 pub mod Begun
+pub mod Going

@@ -39,13 +39,12 @@ freshOf h = fresh places (h .n) (h .votes)
 abbrev pub stepBytes : Release → List Step → List ℕ
 stepBytes r steps = map stepByte (reports r steps)
 
--- What the second pass starts from: `count` steps from a place on, room for a byte of each, and numbers and a store that represent a release with the
--- header's n. A counted call has a record of three bytes: every count has room for a call in each three of the bytes left
-pub record Ready (s : List ℕ) (start : ℕ) (h : Header) (count room : ℕ) (l : List ℕ) (store : Store) : Type 0 where
+-- What the second pass starts from: `count` steps from a place on, and numbers and a store that represent a release with the header's n. A counted
+-- call has a record of three bytes: every count has room for a call in each three of the bytes left
+pub record Ready (s : List ℕ) (start : ℕ) (h : Header) (count : ℕ) (l : List ℕ) (store : Store) : Type 0 where
   pub within : start ≤ length s
   pub header : headerInRange h ≡ true
   pub steps : validated (readingFrom s h start) ≡ Validated.Steps h count
-  pub enough : count ≤ room
   pub numbers : l ≡ fields (releaseIn l store)
   pub same-n : nIn l ≡ h .n
   pub countable : (p : ℕ) → p < suc places → 3 * countIn l p + (length s - start) < 3 * countLimit

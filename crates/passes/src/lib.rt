@@ -19,10 +19,9 @@ ghost use mathlib.Core.Path.{_≡_};
 ghost use Prim.Native.Nat.{_≤_};
 ghost use lib.ListN.{length};
 ghost use Rattle.schedule.specs.Record.{headerRecord, recordLength, longest};
-ghost use Rattle.state.specs.Fields.{fields, releaseIn};
+ghost use Rattle.state.specs.Fields.{releaseIn};
 ghost use Rattle.schedule.specs.Schedule.{readSchedule};
-ghost use Rattle.passes.specs.declared.Validated.{Validated};
-ghost use Rattle.passes.specs.Pass.{validated, readingFrom, stepsOf, freshOf, Ready, Leaves};
+ghost use Rattle.passes.specs.Pass.{validated, readingFrom, stepsOf, Ready, Leaves};
 
 // A schedule's header and how many steps it has; or a refusal's number and place.
 pub enum Validated {
@@ -31,7 +30,7 @@ pub enum Validated {
 }
 
 // Counts the steps from a place on, or leaves with the first refusal, whose place is the record's first byte.
-fn count_steps(schedule: &[u8], start: usize, header: Header) -> Validated
+pub fn count_steps(schedule: &[u8], start: usize, header: Header) -> Validated
     requires { ⌜ (start ≤ length (now schedule)) × (length (now schedule) ≤ longest) ⌝ }
     ensures { λ x. ⌜ x ≡ validated (readingFrom (now (schedule .entry)) header start) ⌝ }
 {
@@ -63,7 +62,7 @@ pub fn validate(schedule: &[u8]) -> Validated
 }
 
 // Where the steps of a schedule begin: after the header's kind and body.
-fn first_step(header: Header) -> usize
+pub fn first_step(header: Header) -> usize
     ensures { λ p. ⌜ p ≡ recordLength (headerRecord header) ⌝ }
 {
     let kind = header.kind;
@@ -82,7 +81,7 @@ pub fn run_steps(
     store: Store,
     report: &mut [u8],
 ) -> Store
-    requires { ⌜ Ready (now schedule) start header count (length (now report)) (now numbers) store ⌝ }
+    requires { ⌜ Ready (now schedule) start header count (now numbers) store × (count ≤ length (now report)) ⌝ }
     ensures { λ s. ⌜ Leaves (releaseIn (now (numbers .entry)) store) (stepsOf (readingFrom (now (schedule .entry)) header start)) (now (report .entry))
         s (now (numbers .exit)) (now (report .exit)) ⌝ }
 {
@@ -104,27 +103,4 @@ pub fn run_steps(
         i = i + 1;
     }
     left
-}
-
-// The second pass of a schedule that was validated, from the fresh release of its header, whose numbers are lent.
-pub fn run_fresh(
-    schedule: &[u8],
-    header: Header,
-    count: usize,
-    numbers: &mut [u32; FIELDS],
-    report: &mut [u8],
-) -> Store
-    requires { ⌜ (validated (readSchedule (now schedule)) ≡ Validated.Steps header count) × (count ≤ length (now report)) × (now numbers ≡ fields (freshOf header)) ⌝ }
-    ensures { λ s. ⌜ Leaves (freshOf header) (stepsOf (readSchedule (now (schedule .entry)))) (now (report .entry)) s (now (numbers .exit)) (now (report .exit)) ⌝ }
-{
-    let start = first_step(header);
-    run_steps(
-        schedule,
-        start,
-        header,
-        count,
-        numbers,
-        Store::empty(),
-        report,
-    )
 }

@@ -4,7 +4,7 @@ use mathlib.Core.Bool.{Bool, true, false, cond}
 use Prim.Native.Nat.{ℕ, _*_, _^_, _≤_, _<_}
 use native.Mathlib.Omega.{arith}
 use lib.Pow.{pow-mono, pow-pos}
-use borrow.Author.Tests.{leb-true}
+use borrow.Author.Tests.{leb-true, le-leb}
 use Rattle.number.proofs.Laws.{and-left, and-right, and-true}
 use Rattle.number.proofs.LowBytes.{low-bits}
 use Rattle.mask.specs.Mask.{within, full}
@@ -12,7 +12,7 @@ use Rattle.store.specs.Log.{places}
 use Rattle.kind.specs.Kind.{kindNumber, firstWidth, secondWidth, isHeader, room}
 use Rattle.kind.specs.Step.{numberInRange, numbersInRange}
 use Rattle.kind.proofs.Numbers.{between, numbers-fit, header-widths, room-most, room-bits, no-room}
-use Rattle.schedule.specs.Types.{Header, Record, Before}
+use Rattle.schedule.specs.Types.{Kind, Header, Record, Before}
 use Rattle.schedule.specs.Record.{headerInRange, headerRecord, recordHeader, recordInRange}
 use Rattle.schedule.specs.RoundTrip.{mayFollow}
 
@@ -21,6 +21,12 @@ header-room h q = between 1 (h .n) (room (h .kind)) (and-left (numberInRange 1 (
 
 pub header-size : (h : Header) → headerInRange h ≡ true → (1 ≤ h .n) × (h .n ≤ places)
 header-size h q = let x = header-room h q in (x .0, omega (arith, room-most (h .kind)))
+
+-- a header in range is so under a kind with room for as many
+pub header-under : (k : Kind) (h : Header) → room (h .kind) ≤ room k → headerInRange h ≡ true → headerInRange (record { kind = k; n = h .n; votes = h .votes }) ≡ true
+header-under k h more q =
+    let x = header-room h q in
+    and-true _ _ (and-true _ _ (le-leb 1 (h .n) (x .0)) (le-leb (h .n) (room k) (omega (arith, x .1)))) (and-right (numberInRange 1 (h .n) (room (h .kind))) _ q)
 
 -- a header in range has a header's kind
 pub header-is : (h : Header) → headerInRange h ≡ true → isHeader (h .kind) ≡ true

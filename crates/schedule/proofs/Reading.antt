@@ -1,7 +1,7 @@
 -- What reading a schedule gives: steps in range are read one after the other, and what was read stands in the bytes. Assumes nothing.
 use mathlib.Core.Path.{_≡_, refl, sym, ap, ap₂, subst, _∙_}
 use mathlib.Core.Bool.{Bool, true, false, cond}
-use mathlib.Core.List.{List, [], _∷_, _++_, append-assoc}
+use mathlib.Core.List.{List, [], _∷_, _++_, append-nil, append-assoc}
 use Prim.Native.Nat.{ℕ, zero, suc, _+_, _-_, _≤_, _<_}
 use native.Mathlib.Omega.{arith}
 use native.Mathlib.Nat.{add-zero}
@@ -59,7 +59,7 @@ abbrev pub withSteps : List Step → Reading → Reading
 withSteps [] x = x
 withSteps (s ∷ ss) x = withStep s (withSteps ss x)
 
-pub first-steps : (h : Header) → headerInRange h ≡ true → (steps : List Step) → AllInRange (h .n) steps → (place : ℕ) (rest : List ℕ)
+first-steps : (h : Header) → headerInRange h ≡ true → (steps : List Step) → AllInRange (h .n) steps → (place : ℕ) (rest : List ℕ)
     → stepsFrom h place (stepsBytes steps ++ rest) 0 ≡ withSteps steps (stepsFrom h (place + length (stepsBytes steps)) rest 0)
 first-steps h g [] q place rest = rw (add-zero place) refl
 first-steps h g (s ∷ ss) q place rest =
@@ -71,6 +71,18 @@ first-steps h g (s ∷ ss) q place rest =
     ∙ ap (λ t. withStep t (stepsFrom h here (stepsBytes ss ++ rest) 0)) (kind-decoded s)
     ∙ ap (withStep s) (first-steps h g ss (q .1) here rest ∙ ap (λ p. withSteps ss (stepsFrom h p rest 0)) far)
 
+all-read : (h : Header) (place : ℕ) (steps : List Step) → withSteps steps (stepsFrom h place [] 0) ≡ Accepted h steps
+unfolding stepsFrom
+all-read h place [] = refl
+all-read h place (s ∷ ss) = ap (withStep s) (all-read h place ss)
+
+-- steps alone
+pub steps-read : (h : Header) → headerInRange h ≡ true → (steps : List Step) → AllInRange (h .n) steps → (place : ℕ) → stepsFrom h place (stepsBytes steps) 0 ≡ Accepted h steps
+steps-read h g steps q place =
+    ap (λ l. stepsFrom h place l 0) (sym (append-nil (stepsBytes steps)))
+    ∙ first-steps h g steps q place []
+    ∙ all-read h (place + length (stepsBytes steps)) steps
+
 -- A header, and steps after it
 
 pub after-header : (h : Header) → headerInRange h ≡ true → (rest : List ℕ) → length (recordBytes (headerRecord h) ++ rest) ≤ longest
@@ -81,11 +93,6 @@ after-header h g rest fits =
       read-front Before.Nothing (headerRecord h) rest (header-follows h g),
       drop-at (recordBytes (headerRecord h)) rest (recordLength (headerRecord h)) (record-length (headerRecord h)),
     )
-
-pub all-read : (h : Header) (place : ℕ) (steps : List Step) → withSteps steps (stepsFrom h place [] 0) ≡ Accepted h steps
-unfolding stepsFrom
-all-read h place [] = refl
-all-read h place (s ∷ ss) = ap (withStep s) (all-read h place ss)
 
 -- What was read
 
@@ -117,18 +124,18 @@ pub refused-number : (bytes : List ℕ) (before : Before) (k p : ℕ) → reader
 refused-number bytes before k p e = subst AtFirst e (at-first bytes before) .1
 
 -- steps that are read, and then a record that is refused
-record StoppedAt (h : Header) (place : ℕ) (bytes : List ℕ) (k at : ℕ) : Type 0 where
-  steps : List Step
-  rest : List ℕ
-  ranged : AllInRange (h .n) steps
-  long : length bytes ≡ length (stepsBytes steps) + length rest
-  split : AllBytes bytes → bytes ≡ stepsBytes steps ++ rest
-  some : 0 < length rest
-  refused : readerAnswers rest (Before.Header h) ≡ Read.Refused k 0
-  there : at ≡ place + length (stepsBytes steps)
+pub record StoppedAt (h : Header) (place : ℕ) (bytes : List ℕ) (k at : ℕ) : Type 0 where
+  pub steps : List Step
+  pub rest : List ℕ
+  pub ranged : AllInRange (h .n) steps
+  pub long : length bytes ≡ length (stepsBytes steps) + length rest
+  pub split : AllBytes bytes → bytes ≡ stepsBytes steps ++ rest
+  pub some : 0 < length rest
+  pub refused : readerAnswers rest (Before.Header h) ≡ Read.Refused k 0
+  pub there : at ≡ place + length (stepsBytes steps)
 
 -- what a reading says of the bytes from a place on
-abbrev Says : Header → ℕ → List ℕ → Reading → Type 0
+abbrev pub Says : Header → ℕ → List ℕ → Reading → Type 0
 Says h place bytes (Accepted g steps) =
     (g ≡ h) × AllInRange (h .n) steps × (length (stepsBytes steps) ≡ length bytes) × (AllBytes bytes → stepsBytes steps ≡ bytes)
 Says h place bytes (Refused k at) = StoppedAt h place bytes k at
@@ -202,6 +209,9 @@ says h place (x ∷ bytes) zero fits = rw (add-zero place) (read (readerAnswers 
           there = ap (λ i. place + i) here;
         }
 
+pub read-from : (h : Header) (place : ℕ) (bytes : List ℕ) → Says h place bytes (stepsFrom h place bytes 0)
+read-from h place bytes = subst (λ p. Says h p bytes (stepsFrom h place bytes 0)) (add-zero place) (says h place bytes 0 (omega arith))
+
 -- no more steps than bytes
 pub steps-few : (steps : List Step) → length steps ≤ length (stepsBytes steps)
 steps-few [] = omega arith
@@ -263,7 +273,7 @@ read-says bytes = by-length (ltb longest (length bytes)) refl
         let ranged : headerInRange h ≡ true = rw placed at (and-right (isHeader (r .kind)) _ (y .follows)) in
         let rest : List ℕ = drop l bytes in
         let x : Reading = stepsFrom h l rest 0 in
-        let said : Says h (recordLength (headerRecord h)) rest x = subst (λ p. Says h p rest x) (add-zero l ∙ y .size) (says h l rest 0 (omega arith)) in
+        let said : Says h (recordLength (headerRecord h)) rest x = subst (λ p. Says h p rest x) (y .size) (read-from h l rest) in
         says-whole h bytes rest ranged fits (record {
           long = omega (arith, y .size, y .fits, length-drop l bytes);
           front = y .front;
@@ -290,6 +300,13 @@ refused-first h place [] k some e = absurd (omega arith)
 refused-first h place (x ∷ rest) k some e =
     ap (λ y. andThen place y (stepsFrom h (suc place) rest)) e ∙ ap (Refused k) (add-zero place)
 
-pub still-refused : (steps : List Step) (k place : ℕ) → withSteps steps (Refused k place) ≡ Refused k place
+still-refused : (steps : List Step) (k place : ℕ) → withSteps steps (Refused k place) ≡ Refused k place
 still-refused [] k place = refl
 still-refused (s ∷ ss) k place = ap (withStep s) (still-refused ss k place)
+
+pub refused-after : (h : Header) → headerInRange h ≡ true → (steps : List Step) → AllInRange (h .n) steps → (place : ℕ) (rest : List ℕ) (k : ℕ) → 0 < length rest
+    → readerAnswers rest (Before.Header h) ≡ Read.Refused k 0 → stepsFrom h place (stepsBytes steps ++ rest) 0 ≡ Refused k (place + length (stepsBytes steps))
+refused-after h g steps q place rest k some e =
+    first-steps h g steps q place rest
+    ∙ ap (withSteps steps) (refused-first h (place + length (stepsBytes steps)) rest k some e)
+    ∙ still-refused steps k (place + length (stepsBytes steps))

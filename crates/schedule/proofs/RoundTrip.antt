@@ -1,7 +1,7 @@
 -- Nothing is lost between bytes and steps, either way, and a refusal is the first from the left: the statements of specs/RoundTrip.antt.
 -- Assumes nothing.
-use mathlib.Core.Path.{_≡_, sym, ap, subst, _∙_}
-use mathlib.Core.List.{List, [], _∷_, _++_, append-nil, append-assoc}
+use mathlib.Core.Path.{_≡_, ap, subst, _∙_}
+use mathlib.Core.List.{List, [], _∷_, _++_, append-assoc}
 use Prim.Native.Nat.{ℕ, zero, suc, _+_, _/_, _≤_}
 use native.Mathlib.Omega.{arith}
 use lib.ListN.{length}
@@ -11,16 +11,13 @@ use Rattle.kind.specs.Kind.{firstWidth, secondWidth}
 use Rattle.kind.proofs.Numbers.{kind-most}
 use Rattle.schedule.specs.Types.{Step, Header, Record}
 use Rattle.schedule.specs.Record.{headerRecord, stepRecord, recordLength, recordBytes, longest}
-use Rattle.schedule.specs.Schedule.{Accepted, Refused, stepsFrom, readSchedule, stepsBytes}
+use Rattle.schedule.specs.Schedule.{Accepted, Refused, readSchedule, stepsBytes}
 use Rattle.schedule.specs.RoundTrip.{BytesKept, StepsKept, ReadInRange, AllBytes, BytesFit, RefusalOf, too-long, at-header, at-step, FirstRefusal}
-use Rattle.schedule.proofs.Reading.{withSteps, first-steps, after-header, all-read, SaysWhole, read-says, refused-first, still-refused, header-more, steps-few}
+use Rattle.schedule.proofs.Reading.{steps-read, after-header, SaysWhole, read-says, refused-after, header-more}
 
 pub steps-kept : StepsKept
 steps-kept h steps g q fits =
-    after-header h g (stepsBytes steps) fits
-    ∙ ap (λ l. stepsFrom h (recordLength (headerRecord h)) l 0) (sym (append-nil (stepsBytes steps)))
-    ∙ first-steps h g steps q (recordLength (headerRecord h)) []
-    ∙ all-read h (recordLength (headerRecord h) + length (stepsBytes steps)) steps
+    after-header h g (stepsBytes steps) fits ∙ steps-read h g steps q (recordLength (headerRecord h))
 
 pub bytes-kept : BytesKept
 bytes-kept bytes b h steps e = subst (SaysWhole bytes) e (read-says bytes) .same b
@@ -28,11 +25,11 @@ bytes-kept bytes b h steps e = subst (SaysWhole bytes) e (read-says bytes) .same
 pub read-in-range : ReadInRange
 read-in-range bytes h steps e = let x = subst (SaysWhole bytes) e (read-says bytes) in (x .header, x .ranged, x .short)
 
--- no more steps than bytes
-pub few-steps : (bytes : List ℕ) (h : Header) (steps : List Step) → readSchedule bytes ≡ Accepted h steps → length steps ≤ longest
-few-steps bytes h steps e =
+-- the steps have fewer bytes than the longest schedule
+pub few-bytes : (bytes : List ℕ) (h : Header) (steps : List Step) → readSchedule bytes ≡ Accepted h steps → length (stepsBytes steps) ≤ longest
+few-bytes bytes h steps e =
     let x = subst (SaysWhole bytes) e (read-says bytes) in
-    omega (arith, steps-few steps, x .long, header-more h (stepsBytes steps), x .short)
+    omega (arith, x .long, header-more h (stepsBytes steps), x .short)
 
 -- Refusals
 
@@ -40,13 +37,10 @@ is-refused : (bytes : List ℕ) (k place : ℕ) → RefusalOf bytes k place → 
 is-refused bytes k place (too-long h) = simp (lt-ltb longest (length bytes) h)
 is-refused bytes k place (at-header fits e) = simp (le-ltb longest (length bytes) fits, e)
 is-refused bytes k place (at-step h steps rest fits g q split some e) =
-    let n : ℕ = recordLength (headerRecord h) + length (stepsBytes steps) in
     ap readSchedule split
     ∙ ap readSchedule (append-assoc (recordBytes (headerRecord h)) (stepsBytes steps) rest)
     ∙ after-header h g (stepsBytes steps ++ rest) (subst (λ b. length b ≤ longest) (split ∙ append-assoc (recordBytes (headerRecord h)) (stepsBytes steps) rest) fits)
-    ∙ first-steps h g steps q (recordLength (headerRecord h)) rest
-    ∙ ap (withSteps steps) (refused-first h n rest k some e)
-    ∙ still-refused steps k n
+    ∙ refused-after h g steps q (recordLength (headerRecord h)) rest k some e
     ∙ ap (Refused k) (header-more h (stepsBytes steps))
 
 pub first-refusal : FirstRefusal

@@ -20,7 +20,7 @@ use Rattle.kind.specs.Step.{stepNumber, firstNumber, secondNumber, inRange, num
 use Rattle.kind.proofs.Numbers.{step-numbers, step-tested}
 use Rattle.rules.specs.State.{participantOf, logOf, firstOf, lastOf, waiting, fresh}
 use Rattle.rules.specs.Step.{step}
-use Rattle.rules.specs.Run.{after, Countable}
+use Rattle.rules.specs.Run.{after, countLimit, Countable}
 use Rattle.rules.specs.Range.{ReleaseInRange}
 use Rattle.number.specs.Table.{tabulate}
 use Rattle.tail.specs.Tail.{fieldsOf, tailOf, siteOf, pairOf, fieldsAt, releaseOf, recordsInRange, fieldsZero, participantInRange, participantsInRange, countInRange, tailInRange, TailNumbers}
@@ -58,15 +58,15 @@ fields-encoded n i f true q =
 fields-encoded n i f false q =
     rw (zero-fields f q) refl
 
-tail-encoded : (k : Kind) (t : Tail) → length (t .participants) ≡ places → tailInRange k t ≡ true → tailOf (releaseOf t) ≡ t
-tail-encoded k t l q =
+tail-encoded : (k : Kind) (limit : ℕ) (t : Tail) → length (t .participants) ≡ places → tailInRange k limit t ≡ true → tailOf (releaseOf t) ≡ t
+tail-encoded k limit t l q =
     rw (p .0, p .1, each) refl
   where
     p : (Coordinator.stateNumber (Coordinator.ofNumbers (t .state) (t .heard)) ≡ t .state) × (Coordinator.heardOf (Coordinator.ofNumbers (t .state) (t .heard)) ≡ t .heard)
-    p = coordinator-numbers .encoded (t .state) (t .heard) (and-left _ _ (and-left (Coordinator.numbersInRange (t .n) (t .state) (t .heard)) _ (parties-in-range k t q)))
+    p = coordinator-numbers .encoded (t .state) (t .heard) (and-left _ _ (and-left (Coordinator.numbersInRange (t .n) (t .state) (t .heard)) _ (parties-in-range k limit t q)))
 
     passed : participantsInRange t ≡ true
-    passed = and-right (Coordinator.numbersInRange (t .n) (t .state) (t .heard)) _ (parties-in-range k t q)
+    passed = and-right (Coordinator.numbersInRange (t .n) (t .state) (t .heard)) _ (parties-in-range k limit t q)
 
     at : (i : ℕ) → i < places → fieldsOf (releaseOf t) i ≡ fieldsAt t i
     at i h =
@@ -133,16 +133,18 @@ fields-tested r g i false e =
     (ap₂ (λ (p : Participant) (l : LogPair). fieldsZero (fields-from (record { participant = p }) l)) (g .participants-beyond i (ltb-false i (r .n) e))
     (g .logs-beyond i (ltb-false i (r .n) e)))
 
-count-tested : (r : Release) → ReleaseInRange r → Countable (r .calls) → (p : ℕ) (b : Bool) → leb p (r .n) ≡ b → countInRange (r .n) p (getD (r .calls) p 0) ≡ true
-count-tested r g k p true e = rw e (lt-ltb (getD (r .calls) p 0) 65535 (k p))
-count-tested r g k p false e = rw (e, g .calls-beyond p (leb-false p (r .n) e)) refl
+count-tested : (limit : ℕ) (r : Release) → ReleaseInRange r → ((p : ℕ) → getD (r .calls) p 0 < limit) → (p : ℕ) (b : Bool) → leb p (r .n) ≡ b
+    → countInRange limit (r .n) p (getD (r .calls) p 0) ≡ true
+count-tested limit r g k p true e = rw e (lt-ltb (getD (r .calls) p 0) limit (k p))
+count-tested limit r g k p false e = rw (e, g .calls-beyond p (leb-false p (r .n) e)) refl
 
-pub tail-in-range : (kind : Kind) (r : Release) → r .n ≤ room kind → ReleaseInRange r → Countable (r .calls) → tailInRange kind (tailOf r) ≡ true
-tail-in-range kind r h g k =
+pub tail-in-range : (kind : Kind) (limit : ℕ) (r : Release) → r .n ≤ room kind → ReleaseInRange r → ((p : ℕ) → getD (r .calls) p 0 < limit)
+    → tailInRange kind limit (tailOf r) ≡ true
+tail-in-range kind limit r h g k =
     and-true _ _ (and-true _ _ (and-true _ _ (le-leb 1 (r .n) (g .positive)) (le-leb (r .n) (room kind) h)) (g .votes))
     (and-true _ _ (every-all _ 5 (message-tested r g))
     (and-true _ _ (and-true _ _ (coordinator-numbers-tested (r .n) (r .coordinator) (g .coordinator)) (every-all _ places at))
-    (every-all _ (suc places) (λ p l. count-tested r g k p (leb p (r .n)) refl))))
+    (every-all _ (suc places) (λ p l. count-tested limit r g k p (leb p (r .n)) refl))))
   where
     at : (i : ℕ) → i < places → participantInRange (r .n) i (fieldsAt (tailOf r) i) ≡ true
     at i l = ap (participantInRange (r .n) i) (getD-tabulate places (fieldsOf r) i _ l) ∙ fields-tested r g i (ltb i (r .n)) refl
@@ -152,7 +154,7 @@ tail-in-range kind r h g k =
 single-follows : (r : Release) → r .n ≤ room Kind.WideHeader → length (r .sites) ≡ places → length (r .store .logs) ≡ places → ReleaseInRange r → Countable (r .calls)
     → (s : Step) → inRange (r .n) s ≡ true → singleStep (tailOf r) (stepNumber s) (firstNumber s) (secondNumber s) ≡ handed (tailOf r) (step r s)
 single-follows r h l m g k s q =
-    sym (single-taken (tailOf r) (stepNumber s) (firstNumber s) (secondNumber s) (tail-in-range Kind.WideHeader r h g k) (step-tested (r .n) s q))
+    sym (single-taken (tailOf r) (stepNumber s) (firstNumber s) (secondNumber s) (tail-in-range Kind.WideHeader countLimit r h g k) (step-tested (r .n) s q))
     ∙ ap₂ (λ (x : Release) (y : Step). handed (tailOf r) (step x y)) (release-decoded r l m) (step-numbers .decoded s)
 
 pub single-step-follows : SingleStepFollows

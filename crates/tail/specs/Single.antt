@@ -11,7 +11,7 @@ use Rattle.kind.specs.Step.{stepNumber, firstNumber, secondNumber, stepOf, inRa
 use Rattle.rules.specs.State.{fresh}
 use Rattle.rules.specs.Report.{moves, stepByte}
 use Rattle.rules.specs.Step.{step}
-use Rattle.rules.specs.Run.{after, Countable}
+use Rattle.rules.specs.Run.{after, countLimit, Countable}
 use Rattle.tail.specs.Tail.{tailOf, releaseOf, tailInRange}
 use Rattle.tail.specs.Types.{Kind, Tail, Step, Report, Stepped}
 
@@ -23,9 +23,9 @@ refused k t = record { number = k; state = t; byte = 0 }
 abbrev pub handed : Tail → Report → Stepped
 handed t r = cond (moves (r .outcome)) (record { number = accepted; state = tailOf (r .next); byte = stepByte r }) (refused notDue t)
 
--- Order: 5, 7
+-- Order: 5, 7. A call count of 65,535 is out of range
 abbrev pub singleStep : Tail → ℕ → ℕ → ℕ → Stepped
-singleStep t kind a b = cond (tailInRange Kind.WideHeader t && numbersInRange (t .n) kind a b) (handed t (step (releaseOf t) (stepOf kind a b))) (refused outOfRange t)
+singleStep t kind a b = cond (tailInRange Kind.WideHeader countLimit t && numbersInRange (t .n) kind a b) (handed t (step (releaseOf t) (stepOf kind a b))) (refused outOfRange t)
 
 -- From every release that a run reaches, with counts in range, the single step is the step of the rules. Proved in proofs/Follows.antt
 abbrev pub SingleStepFollows : Type 0

@@ -11,7 +11,6 @@ use Rattle.participant.specs.Participant
 use Rattle.coordinator.specs.Coordinator
 use Rattle.schedule.specs.Record.{headerInRange}
 use Rattle.rules.specs.State.{participantOf, logOf, types}
-use Rattle.rules.specs.Run.{countLimit}
 use Rattle.tail.specs.Types.{Kind, LogPair, Participant, Header, Site, Release, ParticipantFields, Tail}
 
 -- a release in numbers: n, votes, coordinator state and heard mask, five message masks; for each participant state, heard mask, first, last; for each
@@ -89,18 +88,18 @@ participantsInRange t = every (λ i. participantInRange (t .n) i (fieldsAt t i))
 abbrev pub partiesInRange : Tail → Bool
 partiesInRange t = Coordinator.numbersInRange (t .n) (t .state) (t .heard) && participantsInRange t
 
--- a call count of 65,535 is out of range
-abbrev pub countInRange : ℕ → ℕ → ℕ → Bool
-countInRange n p k = cond (leb p n) (ltb k countLimit) (eqb k 0)
+-- a call count is below a limit, which is the entry's
+abbrev pub countInRange : ℕ → ℕ → ℕ → ℕ → Bool
+countInRange limit n p k = cond (leb p n) (ltb k limit) (eqb k 0)
 
-abbrev pub callsInRange : Tail → Bool
-callsInRange t = every (λ p. countInRange (t .n) p (getD (t .calls) p 0)) (suc places)
+abbrev pub callsInRange : ℕ → Tail → Bool
+callsInRange limit t = every (λ p. countInRange limit (t .n) p (getD (t .calls) p 0)) (suc places)
 
 -- under a header of that kind
-abbrev pub tailInRange : Kind → Tail → Bool
-tailInRange k t = headerInRange (headerOf k t) && (messagesInRange t && (partiesInRange t && callsInRange t))
+abbrev pub tailInRange : Kind → ℕ → Tail → Bool
+tailInRange k limit t = headerInRange (headerOf k t) && (messagesInRange t && (partiesInRange t && callsInRange limit t))
 
 -- The way back and the numbers belong together: decode after encode is the identity, encode after decode on what is in range
 pub record TailNumbers : Type 0 where
   pub decoded : (r : Release) → length (r .sites) ≡ places → length (r .store .logs) ≡ places → releaseOf (tailOf r) ≡ r
-  pub encoded : (k : Kind) (t : Tail) → length (t .participants) ≡ places → tailInRange k t ≡ true → tailOf (releaseOf t) ≡ t
+  pub encoded : (k : Kind) (limit : ℕ) (t : Tail) → length (t .participants) ≡ places → tailInRange k limit t ≡ true → tailOf (releaseOf t) ≡ t

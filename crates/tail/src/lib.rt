@@ -122,11 +122,11 @@ impl ParticipantFields {
     }
 }
 
-// Whether party p of n can have made k calls.
-fn count_in_range(n: u32, p: u32, k: u16) -> bool
-    ensures { λ b. ⌜ b ≡ countInRange n p k ⌝ }
+// Whether party p of n can have made k calls, fewer than a limit.
+fn count_in_range(limit: u16, n: u32, p: u32, k: u16) -> bool
+    ensures { λ b. ⌜ b ≡ countInRange limit n p k ⌝ }
 {
-    if p <= n { k < 65535 } else { k == 0 }
+    if p <= n { k < limit } else { k == 0 }
 }
 
 impl Tail {
@@ -250,13 +250,13 @@ impl Tail {
         true
     }
 
-    fn calls_in_range(self) -> bool
-        ensures { λ b. ⌜ b ≡ callsInRange self ⌝ }
+    fn calls_in_range(self, limit: u16) -> bool
+        ensures { λ b. ⌜ b ≡ callsInRange limit self ⌝ }
     {
         let n = self.n;
         for p in 0..PARTIES {
             let k = self.calls[p];
-            if count_in_range(n, p as u32, k) {} else {
+            if count_in_range(limit, n, p as u32, k) {} else {
                 return false;
             }
         }
@@ -274,9 +274,9 @@ impl Tail {
         }
     }
 
-    // Whether the tail of that n can hold these fields, under a header of a kind.
-    pub fn in_range(self, kind: Kind) -> bool
-        ensures { λ b. ⌜ b ≡ tailInRange kind self ⌝ }
+    // Whether the tail of that n can hold these fields, under a header of a kind, with every count below a limit.
+    pub fn in_range(self, kind: Kind, limit: u16) -> bool
+        ensures { λ b. ⌜ b ≡ tailInRange kind limit self ⌝ }
     {
         let header = Header {
             kind: kind,
@@ -286,7 +286,7 @@ impl Tail {
         if header.in_range() {
             if self.messages_in_range() {
                 if self.parties_in_range() {
-                    self.calls_in_range()
+                    self.calls_in_range(limit)
                 } else {
                     false
                 }

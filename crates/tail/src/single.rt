@@ -13,8 +13,12 @@ ghost use mathlib.Core.Path.{_≡_};
 ghost use mathlib.Core.Bool.{true};
 ghost use Rattle.kind.specs.Step.{inRange};
 ghost use Rattle.rules.specs.Step.{step};
+ghost use Rattle.rules.specs.Run.{countLimit};
 ghost use Rattle.tail.specs.Tail.{releaseOf, tailInRange};
 ghost use Rattle.tail.specs.Single.{refused, handed, singleStep};
+
+// A call count of 65,535 is out of range.
+const COUNT_LIMIT: u16 = 65535;
 
 // The refusal's number or 0, the state after the step or as given, and the report byte or 0.
 pub struct Stepped {
@@ -35,7 +39,7 @@ impl Tail {
     }
 
     fn stepped(self, s: Step) -> Stepped
-        requires { ⌜ (tailInRange Kind.WideHeader self ≡ true) × (inRange (self .n) s ≡ true) ⌝ }
+        requires { ⌜ (tailInRange Kind.WideHeader countLimit self ≡ true) × (inRange (self .n) s ≡ true) ⌝ }
         ensures { λ x. ⌜ x ≡ handed self (step (releaseOf self) s) ⌝ }
     {
         let before = self.release();
@@ -60,7 +64,7 @@ impl Tail {
     pub fn single_step(self, kind: u32, a: u32, b: u32) -> Stepped
         ensures { λ s. ⌜ s ≡ singleStep self kind a b ⌝ }
     {
-        if self.in_range(Kind::WideHeader) {
+        if self.in_range(Kind::WideHeader, COUNT_LIMIT) {
             if Step::numbers_in_range(self.n, kind, a, b) {
                 self.stepped(Step::of(Kind::of(kind), a, b))
             } else {

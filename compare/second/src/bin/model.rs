@@ -15,9 +15,14 @@ fn main() -> ExitCode {
         return ExitCode::from(2);
     };
     match check_up_to(largest) {
-        Ok(Figures { states, steps, .. }) => {
-            print!("model: n 1 to {largest}, all votes: ");
-            println!("{states} states, {steps} steps, every clause holds");
+        Ok(Figures {
+            states,
+            steps,
+            moved,
+            ..
+        }) => {
+            print!("model: n 1 to {largest}, all votes: {states} states, {steps} steps, ");
+            println!("{moved} states moved over, every clause holds");
             ExitCode::SUCCESS
         }
         Err(violation) => {
@@ -48,12 +53,14 @@ fn check_up_to(largest: u32) -> Result<Figures, Violation> {
                 states,
                 steps,
                 due_steps,
+                moved,
             } = figures;
             println!(
                 "n {n}, votes {votes:02x}: {states} states, {steps} steps, {due_steps} of them due"
             );
             sum.states += states;
             sum.steps += steps;
+            sum.moved += moved;
         }
     }
     Ok(sum)

@@ -158,6 +158,7 @@ impl Graph {
             states: self.states.len(),
             steps: self.states.len() * self.steps.len(),
             due_steps: self.due_numbers.len(),
+            ..Figures::default()
         }
     }
 }

@@ -1,11 +1,12 @@
 //! A check by execution of what document 01's section "Whole lists and cuts" claims of every list
-//! of steps, of what request 2026-01 says of their bytes, and of what a delivered decision does by
-//! request 2026-02: every reachable state of a release is explored, and every clause is looked at
-//! there.
+//! of steps, of what request 2026-01 says of their bytes, of what a delivered decision does by
+//! request 2026-02, and of a run that is moved over by request 2026-04: every reachable state of a
+//! release is explored, and every clause is looked at there.
 
 mod clauses;
 mod cuts;
 mod graph;
+mod moves;
 mod progress;
 mod state;
 
@@ -32,6 +33,8 @@ pub struct Figures {
     pub states: usize,
     pub steps: usize,
     pub due_steps: usize,
+    /// States whose tail was moved and gone on from.
+    pub moved: usize,
 }
 
 /// A clause that does not hold, and a schedule that shows it: a shortest one, where the crashes at a
@@ -86,11 +89,15 @@ pub fn check_rules(header: Header, rules: Rules) -> Result<Figures, Violation> {
         progress::check(&graph, participant)?;
     }
     cuts::check(&graph, rules)?;
+    let moved = moves::check(&graph)?;
     if header.votes == full(header.n) {
         let quiet = steps_without_timeout_and_restart(header.n);
         Graph::explore(header, quiet, rules, clauses::check_no_abort)?;
     }
-    Ok(graph.figures())
+    Ok(Figures {
+        moved,
+        ..graph.figures()
+    })
 }
 
 /// Every step of kinds 02 to 0A that the reader yields under this n.

@@ -3,7 +3,7 @@
 // Each test file uses a part of these.
 #![allow(dead_code)]
 
-use second::{Form, Header, Record, Tail};
+use second::{is_due, single_step, write_record, Form, Header, Record, Refusal, Tail};
 
 /// The bytes of a text such as `01 0A FF`.
 pub fn bytes(text: &str) -> Vec<u8> {
@@ -32,6 +32,59 @@ pub fn steps(n: u32) -> Vec<Record> {
         steps.extend([0x08, 0x09, 0x0A].map(|kind| step(kind, party, 0)));
     }
     steps
+}
+
+/// The bytes of these steps.
+pub fn bytes_of(steps: &[Record]) -> Vec<u8> {
+    let mut bytes = Vec::new();
+    for step in steps {
+        let mut record = [0; 3];
+        let length = write_record(&mut record, 0, step.kind, step.first, step.second);
+        bytes.extend(&record[..length.expect("in range")]);
+    }
+    bytes
+}
+
+/// That many steps from this state, more often due than not.
+pub fn steps_from(tail: Tail, count: usize, numbers: &mut Numbers) -> Vec<Record> {
+    let all = steps(tail.n);
+    let mut tail = tail;
+    let mut taken = Vec::new();
+    for _ in 0..count {
+        let due: Vec<Record> = all.iter().copied().filter(|&s| is_due(&tail, s)).collect();
+        let from = if numbers.below(8) == 0 { &all } else { &due };
+        let step = from[numbers.below(from.len())];
+        if let Ok((after, _)) = single_step(&tail, step.kind, step.first, step.second) {
+            tail = after;
+        }
+        taken.push(step);
+    }
+    taken
+}
+
+/// The report bytes of repeated single steps from this state, and the state after them.
+pub fn single_steps(tail: Tail, steps: &[Record]) -> (Vec<u8>, Tail) {
+    let mut tail = tail;
+    let mut report = Vec::new();
+    for step in steps {
+        match single_step(&tail, step.kind, step.first, step.second) {
+            Ok((after, byte)) => {
+                assert!([1, 2, 3, 5, 7].contains(&byte));
+                tail = after;
+                report.push(byte);
+            }
+            Err(number) => {
+                assert_eq!(number, 7);
+                report.push(0);
+            }
+        }
+    }
+    (report, tail)
+}
+
+/// A refusal with its number and what it hands over beside.
+pub fn refusal(number: u32, value: usize) -> Result<usize, Refusal> {
+    Err(Refusal { number, value })
 }
 
 /// A header of kind 01.

@@ -8,7 +8,7 @@ use borrow.Author.Needs.{needs}
 use Rattle.text.specs.Text.{refusalLine}
 use Rattle.text.proofs.Laws.{decimal-length, refusal-length}
 use Rattle.text.proofs.Putting.{put-front}
-use Rattle.listing.specs.Bytes.{textAnswer, textLeft}
+use Rattle.listing.specs.Listing.{textAnswer, textLeft}
 use Rattle.lines.proofs.LineLaws.{no-lines}
 use Rattle.listing.proofs.list_refusal.Statement.{statement}
 use Rattle.listing.proofs.list_refusal.Tie as tie

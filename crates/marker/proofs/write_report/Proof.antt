@@ -9,37 +9,79 @@ use lib.Seq.{sets}
 use borrow.Author.Tests.{lt-ltb, le-ltb}
 use borrow.Author.Needs.{needs}
 use Rattle.number.specs.Refusal.{tooShort}
-use Rattle.schedule.specs.Schedule.{readSchedule}
+use Rattle.schedule.specs.Schedule.{Reading}
 use Rattle.rules.specs.Run.{after}
+use Rattle.state.specs.Fields.{releaseIn}
 use Rattle.tail.specs.Tail.{tailOf}
-use Rattle.passes.specs.Pass.{stepsOf, freshOf}
-use Rattle.passes.proofs.Passed.{passed}
-use Rattle.passes.proofs.Begun.{run-places}
+use Rattle.passes.specs.Pass.{readingFrom, stepsOf}
+use Rattle.passes.proofs.Passed.{stand}
+use Rattle.passes.proofs.Begun.{left-places}
 use Rattle.form.specs.Form.{formOf, tailBytes, tailLength}
-use Rattle.layout.specs.Numbers.{tailFrom}
 use Rattle.form.proofs.Lengths.{tail-most}
 use Rattle.form.proofs.Fits.{form-fits}
+use Rattle.layout.specs.Numbers.{tailFrom}
 use Rattle.layout.proofs.Source.{tail-from}
-use Rattle.marker.specs.Types.{Written, Tail, Form}
+use Rattle.marker.specs.Types.{Header, Written, Release, Tail, Form}
 use Rattle.marker.specs.Report.{reportBytes, tailSize}
+use Rattle.marker.specs.Run.{readingAnswer, readingLeaves}
 use Rattle.marker.proofs.Ran.{answered, left, whole}
 use Rattle.marker.proofs.write_report.Statement.{statement}
 use Rattle.marker.proofs.write_report.Tie as tie
+
+-- what is read, and the release that it starts from
+
+abbrev reading : tie.Start → Reading
+reading c = readingFrom (c .args .schedule .now) (c .args .header) (c .args .start)
+
+abbrev from : tie.Start → Header → Release
+from c h = releaseIn (c .args .numbers .now) (c .args .store)
 
 -- how many bytes the tail has
 needed : (c : tie.After-length) → c .length .result ≡ tailSize (c .before .before .before .before .args .header)
 needed c = c .length .ensures ∙ ap tailLength (c .before .form-of .ensures)
 
 -- the tail that is put
-tail-here : (c : tie.After-run-fresh) →
-    let args = c .before .before .before .before .before .before .before .before .before .args in
-    tailBytes (c .before .before .before .before .before .before .form-of .result) (tailFrom (c .run-fresh .last .1 .1 .1 .0) (c .run-fresh .result))
-    ≡ tailBytes (formOf (args .header .kind)) (tailOf (after (freshOf (args .header)) (stepsOf (readSchedule (args .schedule .now)))))
+tail-here : (c : tie.After-run-steps) →
+    let start = c .before .before .before .before .before .before .before .before in
+    tailBytes (c .before .before .before .before .before .form-of .result) (tailFrom (c .run-steps .last .1 .1 .1 .1 .0) (c .run-steps .result))
+    ≡ tailBytes (formOf (start .args .header .kind)) (tailOf (after (from start (start .args .header)) (stepsOf (reading start))))
 tail-here c =
-    let args = c .before .before .before .before .before .before .before .before .before .args in
-    let steps = stepsOf (readSchedule (args .schedule .now)) in
-    ap₂ (λ (f : Form) (t : Tail). tailBytes f t) (c .before .before .before .before .before .before .form-of .ensures)
-    (ap₂ tailFrom (c .run-fresh .ensures .numbers) (c .run-fresh .ensures .store) ∙ tail-from (after (freshOf (args .header)) steps) (run-places (args .header) steps))
+    let start = c .before .before .before .before .before .before .before .before in
+    ap₂ (λ (f : Form) (t : Tail). tailBytes f t) (c .before .before .before .before .before .form-of .ensures)
+    (ap₂ tailFrom (c .run-steps .ensures .numbers) (c .run-steps .ensures .store) ∙ tail-from (after (from start (start .args .header)) (stepsOf (reading start))) (left-places (start .pre)))
+
+-- what the run answers and leaves, where the report is too short and where it has room
+
+short : (c : tie.Then1) →
+    let start = c .before .before .before .before .before in
+    let report = start .args .report .now in
+    (Written.Refused tooShort (start .args .steps + c .before .length .result) ≡ readingAnswer (length report) (reading start)) × (report ≡ readingLeaves (from start) report (reading start))
+short c =
+    let start = c .before .before .before .before .before in
+    let m = start .args .steps in
+    let h = start .args .header in
+    let report = start .args .report .now in
+    let t = lt-ltb (length report) (m + tailSize h) (omega (arith, c .if1 .taken, needed (c .before))) in
+    rw (needed (c .before)) (
+      sym (answered (from start) (reading start) h m (start .pre .steps) (length report) ∙ ap (λ b. cond b (Written.Refused tooShort (m + tailSize h)) (Written.Done (m + tailSize h))) t),
+      sym (left (from start) (reading start) h m (start .pre .steps) report ∙ ap (λ b. cond b report (sets report 0 (reportBytes (h .kind) (from start h) (stepsOf (reading start))))) t),
+    )
+
+done : (c : tie.Else1) →
+    let start = c .before .before .before .before .before in
+    let report = start .args .report .now in
+    (Written.Done (start .args .steps + c .before .length .result) ≡ readingAnswer (length report) (reading start))
+    × (sets report 0 (reportBytes (start .args .header .kind) (from start (start .args .header)) (stepsOf (reading start))) ≡ readingLeaves (from start) report (reading start))
+done c =
+    let start = c .before .before .before .before .before in
+    let m = start .args .steps in
+    let h = start .args .header in
+    let report = start .args .report .now in
+    let t = le-ltb (length report) (m + tailSize h) (omega (arith, c .if1 .left, needed (c .before))) in
+    rw (needed (c .before)) (
+      sym (answered (from start) (reading start) h m (start .pre .steps) (length report) ∙ ap (λ b. cond b (Written.Refused tooShort (m + tailSize h)) (Written.Done (m + tailSize h))) t),
+      sym (left (from start) (reading start) h m (start .pre .steps) report ∙ ap (λ b. cond b report (sets report 0 (reportBytes (h .kind) (from start h) (stepsOf (reading start))))) t),
+    )
 
 pub write-report-spec : {M : Type 1} → statement M
 write-report-spec =
@@ -47,10 +89,9 @@ write-report-spec =
     (tie.spec
     (λ c κs. search needs)
     (λ c κs. rw (c .form-of .ensures) (form-fits (c .before .before .before .args .header .kind)))
-    (λ c. let start = c .before .before .before .before in let p = passed (start .args .schedule .now) (start .args .header) (start .args .steps) (start .pre) in omega (arith, p .few, p .short, needed c, tail-most (formOf (start .args .header .kind)) (form-fits (start .args .header .kind))))
-    (λ c. let start = c .before .before .before .before .before in let args = start .args in let m = args .steps in let t = lt-ltb (length (args .report .now)) (m + tailSize (args .header)) (omega (arith, c .if1 .taken, needed (c .before))) in rw (needed (c .before)) (sym (answered (args .schedule .now) (args .header) m (start .pre) (length (args .report .now)) ∙ ap (λ b. cond b (Written.Refused tooShort (m + tailSize (args .header))) (Written.Done (m + tailSize (args .header)))) t), sym (left (args .schedule .now) (args .header) m (start .pre) (args .report .now) ∙ ap (λ b. cond b (args .report .now) (sets (args .report .now) 0 (reportBytes (args .header) (stepsOf (readSchedule (args .schedule .now)))))) t)))
-    (λ c κs. search needs)
-    (λ c κs. (c .before .before .before .before .before .before .before .before .pre, omega (arith, c .before .before .before .if1 .left), c .before .before .fresh .ensures))
-    (λ c κs. (rw (c .before .before .before .before .before .before .before .before .before .before .form-of .ensures) (form-fits (c .before .before .before .before .before .before .before .before .before .before .before .before .before .args .header .kind)), omega (arith, c .before .before .before .before .before .before .before .before .if1 .left, c .before .before .before .before .before .before .before .before .before .length .ensures, c .before .before .before .before .run-fresh .kept)))
+    (λ c. let start = c .before .before .before .before in let args = start .args in omega (arith, stand (args .schedule .now) (args .start) (args .header) (args .steps) (start .pre .steps) .few, needed c, tail-most (formOf (args .header .kind)) (form-fits (args .header .kind))))
+    (λ c. short c)
+    (λ c κs. (c .before .before .before .before .before .before .before .pre, omega (arith, c .before .before .if1 .left)))
+    (λ c κs. (rw (c .before .before .before .before .before .before .before .before .before .form-of .ensures) (form-fits (c .before .before .before .before .before .before .before .before .before .before .before .before .args .header .kind)), omega (arith, c .before .before .before .before .before .before .before .if1 .left, c .before .before .before .before .before .before .before .before .length .ensures, c .before .before .before .before .run-steps .kept)))
     (λ c. search needs)
-    (λ c. let start = c .before .before .before .before .before .before .before .before .before .before .before .before .before .before .before .before in let args = start .args in let m = args .steps in let t = le-ltb (length (args .report .now)) (m + tailSize (args .header)) (omega (arith, c .before .before .before .before .before .before .before .before .before .before .before .if1 .left, needed (c .before .before .before .before .before .before .before .before .before .before .before .before))) in (ap (λ k. Written.Done (m + k)) (needed (c .before .before .before .before .before .before .before .before .before .before .before .before)) ∙ sym (answered (args .schedule .now) (args .header) m (start .pre) (length (args .report .now)) ∙ ap (λ b. cond b (Written.Refused tooShort (m + tailSize (args .header))) (Written.Done (m + tailSize (args .header)))) t), c .before .before .put-tail .ensures .leaves ∙ ap₂ (λ (l z : List ℕ). sets l m z) (c .before .before .before .before .before .before .before .run-fresh .ensures .bytes) (tail-here (c .before .before .before .before .before .before .before)) ∙ whole (args .schedule .now) (args .header) m (start .pre) (args .report .now) ∙ sym (left (args .schedule .now) (args .header) m (start .pre) (args .report .now) ∙ ap (λ b. cond b (args .report .now) (sets (args .report .now) 0 (reportBytes (args .header) (stepsOf (readSchedule (args .schedule .now)))))) t))))
+    (λ c. let start = c .before .before .before .before .before .before .before .before .before .before .before .before .before .before .before in let args = start .args in let there = done (c .before .before .before .before .before .before .before .before .before .before) in (there .0, c .before .before .put-tail .ensures .leaves ∙ ap₂ (λ (l z : List ℕ). sets l (args .steps) z) (c .before .before .before .before .before .before .before .run-steps .ensures .bytes) (tail-here (c .before .before .before .before .before .before .before)) ∙ whole (from start) (reading start) (args .header) (args .steps) (start .pre .steps) (args .report .now) ∙ there .1)))

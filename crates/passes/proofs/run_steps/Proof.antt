@@ -45,7 +45,7 @@ run-steps-spec =
     (tie.spec
     Inv-loop
     μ-loop
-    (λ c. let args = c .before .before .args in set-out (args .schedule .now) (args .start) (args .header) (args .count) (args .report .now) (args .numbers .now) (args .store) (c .before .before .pre))
+    (λ c. let args = c .before .before .args in set-out (args .schedule .now) (args .start) (args .header) (args .count) (args .report .now) (args .numbers .now) (args .store) (c .before .before .pre .0) (c .before .before .pre .1))
     (λ c. search needs)
     (λ c. search needs)
     (λ c. search needs)

@@ -13,10 +13,10 @@ use Rattle.tail.proofs.Tail.calls_in_range.Statement.{statement}
 use Rattle.tail.proofs.Tail.calls_in_range.Tie as tie
 
 abbrev Inv-loop : tie.InvT-loop
-Inv-loop self n p₀ p = (p ≤ suc places) × (n ≡ self .n) × (every (λ j. countInRange (self .n) j (getD (self .calls) j 0)) p ≡ true)
+Inv-loop limit self n p₀ p = (p ≤ suc places) × (n ≡ self .n) × (every (λ j. countInRange limit (self .n) j (getD (self .calls) j 0)) p ≡ true)
 
 abbrev μ-loop : tie.MeasureT-loop
-μ-loop self n p₀ p = suc places - p
+μ-loop limit self n p₀ p = suc places - p
 
 loop-holds : tie.Need-loop-holds Inv-loop μ-loop
 unfolding every

@@ -3,6 +3,7 @@ use mathlib.Core.Path.{sym, ap, _∙_}
 use lib.ListN.{length-map}
 use Rattle.rules.specs.Report.{moves}
 use Rattle.rules.specs.Step.{step}
+use Rattle.rules.specs.Run.{countLimit}
 use Rattle.state.specs.Fields.{fields}
 use Rattle.tail.specs.Types.{Release, Report}
 use Rattle.tail.specs.Tail.{releaseOf}
@@ -16,7 +17,7 @@ use Rattle.tail.proofs.Tail.stepped.Statement.{statement}
 use Rattle.tail.proofs.Tail.stepped.Tie as tie
 
 step-requires : tie.Need-step-requires
-step-requires c κs = (n-in-range Kind.WideHeader (c .before .before .before .before .args .self) (c .before .before .before .before .pre .0) .1, c .before .before .before .before .pre .1, can-count (c .before .before .before .before .args .self) (simp length-map at (c .before .before .before .before .good .0 .1 .1 .1 .1 .1 .1 .0 .1 .0 .1)) (simp length-map at (c .before .before .before .before .good .0 .1 .1 .1 .1 .1 .1 .1 .1 .0 .1 .0 .1)) (c .before .before .before .before .pre .0) _ (c .before .before .fields-of .ensures ∙ ap fields (c .before .before .before .release .ensures)))
+step-requires c κs = (n-in-range Kind.WideHeader countLimit (c .before .before .before .before .args .self) (c .before .before .before .before .pre .0) .1, c .before .before .before .before .pre .1, can-count (c .before .before .before .before .args .self) (simp length-map at (c .before .before .before .before .good .0 .1 .1 .1 .1 .1 .1 .0 .1 .0 .1)) (simp length-map at (c .before .before .before .before .good .0 .1 .1 .1 .1 .1 .1 .1 .1 .0 .1 .0 .1)) (c .before .before .before .before .pre .0) _ (c .before .before .fields-of .ensures ∙ ap fields (c .before .before .before .release .ensures)))
 
 returns : tie.Need-returns
 returns c =

@@ -1,0 +1,204 @@
+//! The entries that write a report, a listing or a tail into a lent buffer: what both sides answer,
+//! the lengths of the buffers, and the smallest input found on which the sides differ.
+
+use crate::difference::{schedule_words, tail_words, Difference};
+use crate::figures::Numbers;
+use crate::lent::{lend, packed, Lent};
+use crate::proved;
+use crate::reduce;
+use crate::states::TAIL;
+use second::{Form, Refusal};
+
+/// Buffers up to this length are lent in every length.
+const SHORT: usize = 700;
+
+/// How often the tail is reduced after the steps.
+const ROUNDS: u32 = 2;
+
+/// An entry with what it is handed beside the buffer: a schedule, a tail, or a tail and steps.
+#[derive(Clone, Copy)]
+pub enum Entry<'a> {
+    Run(&'a [u8]),
+    Listing(&'a [u8]),
+    Move(&'a [u8]),
+    RunFrom(&'a [u8], &'a [u8]),
+    ListingFrom(&'a [u8], &'a [u8]),
+}
+
+impl Entry<'_> {
+    /// What both sides answer where they agree; else the difference, reduced.
+    pub fn compare(self, length: usize) -> Result<Lent, Difference> {
+        let (proved, second) = self.both(length);
+        if proved != second {
+            return Err(self.reduced(length));
+        }
+        Ok(second)
+    }
+
+    /// Compares with buffers of every length up to the needed one and two more; of a choice of
+    /// lengths where that is long.
+    pub fn compare_lengths(self, numbers: &mut Numbers) -> Result<(), Difference> {
+        for length in self.lengths() {
+            numbers.note(self.compare(length)?.number());
+        }
+        Ok(())
+    }
+
+    /// A length that is enough for whatever is written, and two more bytes.
+    pub fn room(self) -> usize {
+        match self {
+            // A step takes at least one byte.
+            Entry::Run(bytes) | Entry::RunFrom(_, bytes) => bytes.len() + TAIL + 2,
+            Entry::Move(_) => TAIL + 2,
+            // A step's line takes at most 20 characters, the last two lines at most 400.
+            Entry::Listing(bytes) | Entry::ListingFrom(_, bytes) => 20 * bytes.len() + 400,
+        }
+    }
+
+    fn both(self, length: usize) -> (Lent, Lent) {
+        let proved = lend(length, |lent| self.proved(lent));
+        let second = lend(length, |lent| packed(self.second(lent)));
+        (proved, second)
+    }
+
+    fn proved(self, lent: &mut [u8]) -> u64 {
+        match self {
+            Entry::Run(schedule) => proved::run(schedule, lent),
+            Entry::Listing(schedule) => proved::list(schedule, lent),
+            Entry::Move(tail) => proved::move_tail(tail, lent),
+            Entry::RunFrom(tail, steps) => proved::run_from(tail, steps, lent),
+            Entry::ListingFrom(tail, steps) => proved::list_from(tail, steps, lent),
+        }
+    }
+
+    fn second(self, lent: &mut [u8]) -> Result<usize, Refusal> {
+        match self {
+            Entry::Run(schedule) => second::run(schedule, lent),
+            Entry::Listing(schedule) => put_text(&second::listing(schedule), lent),
+            Entry::Move(tail) => second::move_tail(tail, lent),
+            Entry::RunFrom(tail, steps) => second::run_from(tail, steps, lent),
+            Entry::ListingFrom(tail, steps) => put_text(&second::listing_from(tail, steps), lent),
+        }
+    }
+
+    /// The length of the tail that is written, whether or not the input is accepted.
+    fn tail_length(self) -> usize {
+        let kind = match self {
+            Entry::Run(schedule) | Entry::Listing(schedule) => schedule.first().copied(),
+            _ => return TAIL,
+        };
+        Form::under(u32::from(kind.unwrap_or(0))).tail_length()
+    }
+
+    /// The length that is needed; a refused input needs none, and its refusal must not depend on the
+    /// buffer.
+    fn needed(self) -> usize {
+        match self.second(&mut []) {
+            Err(Refusal { number: 6, value }) => value,
+            _ => self.tail_length() + 1,
+        }
+    }
+
+    fn lengths(self) -> Vec<usize> {
+        let needed = self.needed();
+        if needed <= SHORT {
+            return (0..=needed + 2).collect();
+        }
+        let tail = self.tail_length();
+        let mut choice = vec![0, 1, 3, 255, 256, needed / 2];
+        choice.extend(tail - 1..=tail + 2);
+        choice.extend(needed - 3..=needed + 2);
+        choice.push(needed + 40_000);
+        choice
+    }
+
+    /// A length with which the sides differ: one about the needed length, or the one given.
+    fn differing_length(self, given: usize) -> Option<usize> {
+        let needed = self.needed();
+        let choice = [0, needed.saturating_sub(1), needed, needed + 2, given];
+        choice.into_iter().find(|length| {
+            let (proved, second) = self.both(*length);
+            proved != second
+        })
+    }
+
+    /// Reduces the steps first, since a short input makes every further try fast, and then the tail.
+    fn reduced(self, length: usize) -> Difference {
+        let differs = |tail: &[u8], bytes: &[u8]| {
+            let smaller = self.with(tail, bytes);
+            smaller.differing_length(length).is_some()
+        };
+        let (tail, bytes) = self.handed();
+        let (mut tail, mut bytes) = (tail.to_vec(), bytes.to_vec());
+        for _ in 0..ROUNDS {
+            bytes = reduce::schedule(&bytes, |bytes| differs(&tail, bytes));
+            tail = reduce::tail(&tail, |tail| differs(tail, &bytes));
+        }
+        let smallest = self.with(&tail, &bytes);
+        let length = smallest.differing_length(length).unwrap_or(length);
+        let (proved, second) = smallest.both(length);
+        Difference {
+            input: smallest.words(length),
+            proved: proved.words(),
+            second: second.words(),
+        }
+    }
+
+    /// The tail, and the schedule or steps; where there is none, no bytes.
+    fn handed(&self) -> (&[u8], &[u8]) {
+        match *self {
+            Entry::Run(bytes) | Entry::Listing(bytes) => (&[], bytes),
+            Entry::Move(tail) => (tail, &[]),
+            Entry::RunFrom(tail, bytes) | Entry::ListingFrom(tail, bytes) => (tail, bytes),
+        }
+    }
+
+    /// The same entry with another input.
+    fn with<'b>(self, tail: &'b [u8], bytes: &'b [u8]) -> Entry<'b> {
+        match self {
+            Entry::Run(_) => Entry::Run(bytes),
+            Entry::Listing(_) => Entry::Listing(bytes),
+            Entry::Move(_) => Entry::Move(tail),
+            Entry::RunFrom(..) => Entry::RunFrom(tail, bytes),
+            Entry::ListingFrom(..) => Entry::ListingFrom(tail, bytes),
+        }
+    }
+
+    pub fn words(self, length: usize) -> String {
+        let (name, has_tail, has_bytes) = match self {
+            Entry::Run(_) => ("run", false, true),
+            Entry::Listing(_) => ("listing", false, true),
+            Entry::Move(_) => ("move", true, false),
+            Entry::RunFrom(..) => ("run from a tail", true, true),
+            Entry::ListingFrom(..) => ("listing from a tail", true, true),
+        };
+        let (tail, bytes) = self.handed();
+        let mut text = format!("{name} with a buffer of {length} bytes");
+        if has_tail {
+            text += &format!("\ntail of {}", given_tail_words(tail));
+        }
+        if has_bytes {
+            let what = if has_tail { "rest" } else { "schedule" };
+            text += &format!("\n{what} of {}", schedule_words(bytes));
+        }
+        text
+    }
+}
+
+/// A tail with its length, which need not be that of a form.
+fn given_tail_words(tail: &[u8]) -> String {
+    let form = match tail.len() {
+        59 => Form::Narrow,
+        _ => Form::Wide,
+    };
+    format!("{} bytes: {}", tail.len(), tail_words(form, tail))
+}
+
+/// The second program's listing, put into a lent buffer.
+fn put_text(listing: &str, text: &mut [u8]) -> Result<usize, Refusal> {
+    let value = listing.len();
+    let lent = text.get_mut(..value);
+    let lent = lent.ok_or(Refusal { number: 6, value })?;
+    lent.copy_from_slice(listing.as_bytes());
+    Ok(value)
+}

@@ -1,0 +1,114 @@
+//! The times of the entries that no program runs in a loop: moves, and runs from a tail. Both sides
+//! take turns at the same calls, and the ratio of their median times is printed. The proved side is
+//! the archive `export`, which no compiler has put together with its caller, as it does in a
+//! program; so runs of whole schedules are timed in the same way, to be compared with.
+
+use crate::lent::packed;
+use crate::proved;
+use crate::random::Random;
+use crate::schedules::{random_schedule, rest_of_length, schedule_of_length, steps_from, LIMIT};
+use crate::states::{reached, TAIL};
+use second::Form;
+use std::time::Instant;
+
+const SEED: u64 = 20_260_101;
+
+/// A tail and the steps that go on from it; or no tail, and a schedule.
+type Start = (Vec<u8>, Vec<u8>);
+
+/// An entry on one side, with its input and the lent buffer.
+type Side = fn(&Start, &mut [u8]) -> u64;
+
+/// Prints a line for each job.
+pub fn print(rounds: usize) {
+    let mut random = Random::new(SEED, 0, 0);
+    let short = inputs(1_000, || short_schedule(&mut random));
+    job("a million runs of up to 12 steps", &short, rounds, RUN);
+    let longest = inputs(100, || longest_schedule(&mut random));
+    job("a thousand runs of 32,768 bytes", &longest, rounds, RUN);
+    let moves = inputs(1_000, || narrow_tail(&mut random));
+    job("a million moves", &moves, rounds, MOVE);
+    let short = inputs(1_000, || short_rest(&mut random));
+    let name = "a million runs of up to 12 steps from a tail";
+    job(name, &short, rounds, RUN_FROM);
+    let longest = inputs(100, || longest_rest(&mut random));
+    let name = "a thousand runs of 32,768 bytes from a tail";
+    job(name, &longest, rounds, RUN_FROM);
+}
+
+fn inputs(count: usize, input: impl FnMut() -> Start) -> Vec<Start> {
+    std::iter::repeat_with(input).take(count).collect()
+}
+
+fn short_schedule(random: &mut Random) -> Start {
+    let steps = random.place(13);
+    (Vec::new(), random_schedule(random, Form::Wide, steps))
+}
+
+fn longest_schedule(random: &mut Random) -> Start {
+    (Vec::new(), schedule_of_length(random, Form::Wide, LIMIT))
+}
+
+fn narrow_tail(random: &mut Random) -> Start {
+    let tail = reached(random, Form::Narrow);
+    (tail.narrow_bytes().to_vec(), Vec::new())
+}
+
+fn short_rest(random: &mut Random) -> Start {
+    let (tail, steps) = (reached(random, Form::Wide), random.place(13));
+    (tail.wide_bytes().to_vec(), steps_from(random, &tail, steps))
+}
+
+fn longest_rest(random: &mut Random) -> Start {
+    let tail = reached(random, Form::Wide);
+    let rest = rest_of_length(random, &tail, LIMIT);
+    (tail.wide_bytes().to_vec(), rest)
+}
+
+const RUN: [Side; 2] = [
+    |(_, schedule), lent| proved::run(schedule, lent),
+    |(_, schedule), lent| packed(second::run(schedule, lent)),
+];
+
+const MOVE: [Side; 2] = [
+    |(tail, _), lent| proved::move_tail(tail, lent),
+    |(tail, _), lent| packed(second::move_tail(tail, lent)),
+];
+
+const RUN_FROM: [Side; 2] = [
+    |(tail, rest), lent| proved::run_from(tail, rest, lent),
+    |(tail, rest), lent| packed(second::run_from(tail, rest, lent)),
+];
+
+/// Prints the median times of both sides and their ratio. A thousand inputs are each called a thousand
+/// times, a hundred ten times.
+fn job(name: &str, inputs: &[Start], rounds: usize, sides: [Side; 2]) {
+    let times = inputs.len().pow(2) / 1_000;
+    let mut seconds = [Vec::new(), Vec::new()];
+    for _ in 0..rounds {
+        for (side, taken) in sides.iter().zip(&mut seconds) {
+            taken.push(time(*side, inputs, times));
+        }
+    }
+    let [proved, second] = seconds.map(median);
+    println!(
+        "{name}: proved {proved:.3} s, second {second:.3} s, ratio {:.2}",
+        proved / second
+    );
+}
+
+fn time(side: Side, inputs: &[Start], times: usize) -> f64 {
+    let mut lent = vec![0; LIMIT + TAIL];
+    let start = Instant::now();
+    for _ in 0..times {
+        for input in inputs {
+            std::hint::black_box(side(input, &mut lent));
+        }
+    }
+    start.elapsed().as_secs_f64()
+}
+
+fn median(mut seconds: Vec<f64>) -> f64 {
+    seconds.sort_by(f64::total_cmp);
+    seconds[seconds.len() / 2]
+}
