@@ -1,7 +1,7 @@
 // A store call of a party, as a step: `fields` are the release's numbers, which change in place; the store goes in by value and comes back. A
-// contract says what this is for the release that they represent. `i` and `j` are places, which count from 0; `p` is the number of a party; `n` is
-// the release's own; `heard` says whether the answer is heard. What a party does is worked out on the log that it calls alone: the store is put
-// together once, at the end.
+// contract says what this is for the release that they represent. `i` and `j` are places, which count from 0; `p` is the number of a party; `all`
+// is the mask of all participants; `heard` says whether the answer is heard. What a party does is worked out on the log that it calls alone: the
+// store is put together once, at the end.
 use coordinator::Coordinator;
 use effect::coordinator_to;
 use effect::participant_to;
@@ -80,7 +80,7 @@ fn participant_answered(
     t: participant::Transition,
 ) -> Called
     requires { ⌜ (i < places) × (j < places) × CanCount (now fields) ⌝ }
-    ensures { λ x. ⌜ ((n : ℕ) → Calls n j (participantAnswered heard i j l t) (now (fields .entry)) log (x .outcome) (x .closed) (now (fields .exit)) (x .log)) ⌝ }
+    ensures { λ x. ⌜ ((all : ℕ) → Calls all j (participantAnswered heard i j l t) (now (fields .entry)) log (x .outcome) (x .closed) (now (fields .exit)) (x .log)) ⌝ }
 {
     match t {
         participant::Transition::NotDue => Called::new(Outcome::Idle, false, log),
@@ -101,21 +101,21 @@ fn participant_answered(
 fn participant_performed(
     fields: &mut [u32; FIELDS],
     log: LogPair,
-    n: u32,
+    all: u32,
     heard: bool,
     i: u32,
     j: u32,
     p: Participant,
     l: Performed,
 ) -> Called
-    requires { ⌜ (n ≤ places) × (i < places) × (j < places) × CanCount (now fields) × (p ≡ participantIn (now fields) i) ⌝ }
-    ensures { λ x. ⌜ Calls n j (participantPerformed heard i j l) (now (fields .entry)) log (x .outcome) (x .closed) (now (fields .exit)) (x .log) ⌝ }
+    requires { ⌜ (i < places) × (j < places) × CanCount (now fields) × (p ≡ participantIn (now fields) i) ⌝ }
+    ensures { λ x. ⌜ Calls all j (participantPerformed heard i j l) (now (fields .entry)) log (x .outcome) (x .closed) (now (fields .exit)) (x .log) ⌝ }
 {
     match l {
         Performed::Refused => Called::new(Outcome::Idle, false, log),
         Performed::Done(done) => {
             let answer = done.answer;
-            participant_answered(fields, log, heard, i, j, done, p.answer(n, i, j, answer))
+            participant_answered(fields, log, heard, i, j, done, p.answer(all, i, j, answer))
         }
     }
 }
@@ -123,30 +123,31 @@ fn participant_performed(
 fn participant_calls(
     fields: &mut [u32; FIELDS],
     log: LogPair,
-    n: u32,
+    all: u32,
     heard: bool,
     i: u32,
     j: u32,
 ) -> Called
-    requires { ⌜ (n ≤ places) × (i < places) × (j < places) × CanCount (now fields) ⌝ }
-    ensures { λ x. ⌜ Calls n j (participantCalls heard i j) (now (fields .entry)) log (x .outcome) (x .closed) (now (fields .exit)) (x .log) ⌝ }
+    requires { ⌜ (i < places) × (j < places) × CanCount (now fields) ⌝ }
+    ensures { λ x. ⌜ Calls all j (participantCalls heard i j) (now (fields .entry)) log (x .outcome) (x .closed) (now (fields .exit)) (x .log) ⌝ }
 {
     let p = participant_at(fields, i);
-    participant_performed(fields, log, n, heard, i, j, p, log.perform(p.pending(i, j)))
+    let l = log.perform(p.pending(i, j));
+    participant_performed(fields, log, all, heard, i, j, p, l)
 }
 
 // The same for the coordinator.
 fn coordinator_answered(
     fields: &mut [u32; FIELDS],
     log: LogPair,
-    n: u32,
+    all: u32,
     heard: bool,
     j: u32,
     l: Logged,
     t: coordinator::Transition,
 ) -> Called
-    requires { ⌜ (n ≤ places) × (j < places) × CanCount (now fields) ⌝ }
-    ensures { λ x. ⌜ Calls n j (coordinatorAnswered heard j l t) (now (fields .entry)) log (x .outcome) (x .closed) (now (fields .exit)) (x .log) ⌝ }
+    requires { ⌜ (j < places) × CanCount (now fields) ⌝ }
+    ensures { λ x. ⌜ Calls all j (coordinatorAnswered heard j l t) (now (fields .entry)) log (x .outcome) (x .closed) (now (fields .exit)) (x .log) ⌝ }
 {
     match t {
         coordinator::Transition::NotDue => Called::new(Outcome::Idle, false, log),
@@ -155,7 +156,7 @@ fn coordinator_answered(
             let next = l.log;
             count_call(fields, 0);
             if heard {
-                Called::new(coordinator_to(fields, n, c, s), closed, next)
+                Called::new(coordinator_to(fields, all, c, s), closed, next)
             } else {
                 Called::new(Outcome::Moved, closed, next)
             }
@@ -166,20 +167,20 @@ fn coordinator_answered(
 fn coordinator_performed(
     fields: &mut [u32; FIELDS],
     log: LogPair,
-    n: u32,
+    all: u32,
     heard: bool,
     j: u32,
     c: Coordinator,
     l: Performed,
 ) -> Called
-    requires { ⌜ (n ≤ places) × (j < places) × CanCount (now fields) × (c ≡ coordinatorIn (now fields)) ⌝ }
-    ensures { λ x. ⌜ Calls n j (coordinatorPerformed heard j l) (now (fields .entry)) log (x .outcome) (x .closed) (now (fields .exit)) (x .log) ⌝ }
+    requires { ⌜ (j < places) × CanCount (now fields) × (c ≡ coordinatorIn (now fields)) ⌝ }
+    ensures { λ x. ⌜ Calls all j (coordinatorPerformed heard j l) (now (fields .entry)) log (x .outcome) (x .closed) (now (fields .exit)) (x .log) ⌝ }
 {
     match l {
         Performed::Refused => Called::new(Outcome::Idle, false, log),
         Performed::Done(done) => {
             let answer = done.answer;
-            coordinator_answered(fields, log, n, heard, j, done, c.answer(n, j, answer))
+            coordinator_answered(fields, log, all, heard, j, done, c.answer(all, j, answer))
         }
     }
 }
@@ -187,33 +188,33 @@ fn coordinator_performed(
 fn coordinator_calls(
     fields: &mut [u32; FIELDS],
     log: LogPair,
-    n: u32,
+    all: u32,
     heard: bool,
     j: u32,
 ) -> Called
-    requires { ⌜ (n ≤ places) × (j < places) × CanCount (now fields) ⌝ }
-    ensures { λ x. ⌜ Calls n j (coordinatorCalls heard j) (now (fields .entry)) log (x .outcome) (x .closed) (now (fields .exit)) (x .log) ⌝ }
+    requires { ⌜ (j < places) × CanCount (now fields) ⌝ }
+    ensures { λ x. ⌜ Calls all j (coordinatorCalls heard j) (now (fields .entry)) log (x .outcome) (x .closed) (now (fields .exit)) (x .log) ⌝ }
 {
     let c = coordinator(fields);
-    coordinator_performed(fields, log, n, heard, j, c, log.perform(c.pending(j)))
+    coordinator_performed(fields, log, all, heard, j, c, log.perform(c.pending(j)))
 }
 
 // A call of party p on the log at place j, which this is.
 fn party_calls(
     fields: &mut [u32; FIELDS],
     log: LogPair,
-    n: u32,
+    all: u32,
     heard: bool,
     p: u32,
     j: u32,
 ) -> Called
-    requires { ⌜ (n ≤ places) × (p ≤ places) × (j < places) × CanCount (now fields) ⌝ }
-    ensures { λ x. ⌜ Calls n j (calls heard p (suc j)) (now (fields .entry)) log (x .outcome) (x .closed) (now (fields .exit)) (x .log) ⌝ }
+    requires { ⌜ (p ≤ places) × (j < places) × CanCount (now fields) ⌝ }
+    ensures { λ x. ⌜ Calls all j (calls heard p (suc j)) (now (fields .entry)) log (x .outcome) (x .closed) (now (fields .exit)) (x .log) ⌝ }
 {
     if p == 0 {
-        coordinator_calls(fields, log, n, heard, j)
+        coordinator_calls(fields, log, all, heard, j)
     } else {
-        participant_calls(fields, log, n, heard, p - 1, j)
+        participant_calls(fields, log, all, heard, p - 1, j)
     }
 }
 
@@ -221,15 +222,15 @@ fn party_calls(
 pub fn calls(
     fields: &mut [u32; FIELDS],
     store: Store,
-    n: u32,
+    all: u32,
     heard: bool,
     p: u32,
     j: u32,
 ) -> Stepped
-    requires { ⌜ (n ≤ places) × (p ≤ places) × (j < places) × CanCount (now fields) ⌝ }
-    ensures { λ x. ⌜ Steps n (calls heard p (suc j)) (now (fields .entry)) store (x .outcome) (x .closed) (now (fields .exit)) (x .store) ⌝ }
+    requires { ⌜ (p ≤ places) × (j < places) × CanCount (now fields) ⌝ }
+    ensures { λ x. ⌜ Steps all (calls heard p (suc j)) (now (fields .entry)) store (x .outcome) (x .closed) (now (fields .exit)) (x .store) ⌝ }
 {
-    let x = party_calls(fields, store.log_at(j as usize), n, heard, p, j);
+    let x = party_calls(fields, store.log_at(j as usize), all, heard, p, j);
     let outcome = x.outcome;
     let log = x.log;
     Stepped::new(outcome, x.closed, store.with_log(j as usize, log))

@@ -3,7 +3,7 @@ use mathlib.Core.Path.{_≡_, refl}
 use mathlib.Core.Bool.{true}
 use Prim.Native.Nat.{ℕ, _≤_}
 use lib.Dec.{lit≤}
-use Rattle.mask.specs.Mask.{within}
+use Rattle.mask.specs.Mask.{full, within}
 use Rattle.mask.proofs.Laws.{none-within}
 use Rattle.number.specs.Numbering.{Inverse2}
 use Rattle.number.proofs.Laws.{and-left, inverse2}
@@ -32,7 +32,7 @@ state-most Coordinator.Down = lit≤ tt
 state-most Coordinator.Retired = lit≤ tt
 
 -- a heard mask in range has nobody beyond n
-pub heard-within : (n : ℕ) (c : Coordinator) → Coordinator.inRange n c ≡ true → within n (Coordinator.heardOf c) ≡ true
+pub heard-within : (n : ℕ) (c : Coordinator) → Coordinator.inRange (full n) c ≡ true → within n (Coordinator.heardOf c) ≡ true
 heard-within n Coordinator.Idle q = none-within n
 heard-within n (Coordinator.Waiting h) q = and-left (within n h) _ q
 heard-within n (Coordinator.Terminating h) q = and-left (within n h) _ q

@@ -3,6 +3,7 @@
 use mathlib.Core.Path.{_≡_}
 use mathlib.Core.List.{List, [], _∷_, map}
 use Prim.Native.Nat.{ℕ}
+use Rattle.mask.specs.Mask.{full}
 use Rattle.store.specs.Log.{recordOf}
 use Rattle.message.specs.Message.{sentNumber}
 use Rattle.coordinator.specs.Types.{Call, Coordinator, CoordinatorTransition}
@@ -27,7 +28,7 @@ leads (CoordinatorTransition.To c m) = stateNumber c ∷ heardOf c ∷ sentNumbe
 
 -- of three participants: the answer, by its number, of log 2
 abbrev pub answer : ℕ → Coordinator → CoordinatorTransition
-answer k c = onAnswer 3 c 1 (recordOf k)
+answer k c = onAnswer (full 3) c 1 (recordOf k)
 
 -- words of the table: not due; to a state; to 1 or 2 with a heard mask; to a state, with a message sent to all
 
@@ -49,8 +50,8 @@ cases =
     -- Start in 0 sends all requests, to 1
     case 1 onStart (sends 1 1 ∷ none ∷ none ∷ none ∷ none ∷ none ∷ none ∷ [])
     -- In 1, a yes reply is heard, all heard gives 3; an abort reply gives 4. Replies in other states have no effect
-    ∷ case 1 (onReplyYes 3 1) (goes 0 ∷ hears 1 3 ∷ hears 2 1 ∷ goes 3 ∷ goes 4 ∷ goes 5 ∷ goes 6 ∷ [])
-    ∷ case 5 (onReplyYes 3 1) (goes 0 ∷ sends 4 3 ∷ hears 2 5 ∷ goes 3 ∷ goes 4 ∷ goes 5 ∷ goes 6 ∷ [])
+    ∷ case 1 (onReplyYes (full 3) 1) (goes 0 ∷ hears 1 3 ∷ hears 2 1 ∷ goes 3 ∷ goes 4 ∷ goes 5 ∷ goes 6 ∷ [])
+    ∷ case 5 (onReplyYes (full 3) 1) (goes 0 ∷ sends 4 3 ∷ hears 2 5 ∷ goes 3 ∷ goes 4 ∷ goes 5 ∷ goes 6 ∷ [])
     ∷ case 1 onReplyAbort (goes 0 ∷ sends 5 4 ∷ hears 2 1 ∷ goes 3 ∷ goes 4 ∷ goes 5 ∷ goes 6 ∷ [])
     -- Timeout in 1 leads to 2, nothing heard; in 2 it clears the mask
     ∷ case 1 onTimeout (none ∷ hears 2 0 ∷ hears 2 0 ∷ none ∷ none ∷ none ∷ none ∷ [])

@@ -1,11 +1,11 @@
--- The rules of the coordinator, in document 01's order. `n` is the number of participants, `i` the place of the participant that replies,
+-- The rules of the coordinator, in document 01's order. `all` is the mask of all participants, `i` the place of the participant that replies,
 -- `j` the place of a log, `h` a heard mask. What the coordinator sends goes to all participants. Assumes nothing.
 use mathlib.Core.Bool.{Bool, true, cond, not, _&&_}
 use mathlib.Core.List.{[], _∷_}
 use Prim.Native.Nat.{ℕ}
-use lib.Dec.{eqb}
+use lib.Dec.{eqb, leb}
 use Rattle.number.specs.Numbering.{numbered, areNumbers}
-use Rattle.mask.specs.Mask.{has, insert, full, within}
+use Rattle.mask.specs.Mask.{has, insert}
 use Rattle.coordinator.specs.Types.{LogRecord, Call, Message, Sent, Coordinator, CoordinatorTransition}
 use Rattle.coordinator.specs.declared.Coordinator.the-variants.{Idle, Waiting, Terminating, Commit, Abort, Down, Retired}
 use Rattle.coordinator.specs.declared.Transition.the-variants.{NotDue, To}
@@ -39,19 +39,19 @@ isCoordinator s h = areNumbers stateNumber heardOf ofNumbers s h
 
 -- and never full there
 abbrev pub heardInRange : ℕ → ℕ → Bool
-heardInRange n h = within n h && not (eqb h (full n))
+heardInRange all h = leb h all && not (eqb h all)
 
 abbrev pub inRange : ℕ → Coordinator → Bool
-inRange n Idle = true
-inRange n (Waiting h) = heardInRange n h
-inRange n (Terminating h) = heardInRange n h
-inRange n Commit = true
-inRange n Abort = true
-inRange n Down = true
-inRange n Retired = true
+inRange all Idle = true
+inRange all (Waiting h) = heardInRange all h
+inRange all (Terminating h) = heardInRange all h
+inRange all Commit = true
+inRange all Abort = true
+inRange all Down = true
+inRange all Retired = true
 
 abbrev pub numbersInRange : ℕ → ℕ → ℕ → Bool
-numbersInRange n s h = isCoordinator s h && inRange n (ofNumbers s h)
+numbersInRange all s h = isCoordinator s h && inRange all (ofNumbers s h)
 
 -- to a state, with nothing sent
 abbrev pub to : Coordinator → CoordinatorTransition
@@ -79,17 +79,17 @@ onStart Retired = NotDue
 
 -- all heard gives 3
 abbrev pub unlessFull : ℕ → ℕ → Coordinator → Coordinator
-unlessFull n h c = cond (eqb h (full n)) Commit c
+unlessFull all h c = cond (eqb h all) Commit c
 
 -- In 1, a yes reply is heard. Replies in other states have no effect
 abbrev pub onReplyYes : ℕ → ℕ → Coordinator → CoordinatorTransition
-onReplyYes n i Idle = to Idle
-onReplyYes n i (Waiting h) = enters (unlessFull n (insert i h) (Waiting (insert i h)))
-onReplyYes n i (Terminating h) = to (Terminating h)
-onReplyYes n i Commit = to Commit
-onReplyYes n i Abort = to Abort
-onReplyYes n i Down = to Down
-onReplyYes n i Retired = to Retired
+onReplyYes all i Idle = to Idle
+onReplyYes all i (Waiting h) = enters (unlessFull all (insert i h) (Waiting (insert i h)))
+onReplyYes all i (Terminating h) = to (Terminating h)
+onReplyYes all i Commit = to Commit
+onReplyYes all i Abort = to Abort
+onReplyYes all i Down = to Down
+onReplyYes all i Retired = to Retired
 
 -- In 1, an abort reply gives 4. Replies in other states have no effect
 abbrev pub onReplyAbort : Coordinator → CoordinatorTransition
@@ -122,20 +122,20 @@ pending Down j = Call.None
 pending Retired j = Call.None
 
 abbrev pub onHeard : ℕ → ℕ → LogRecord → CoordinatorTransition
-onHeard n h LogRecord.None = NotDue
-onHeard n h LogRecord.Yes = enters (unlessFull n h (Terminating h))
-onHeard n h LogRecord.Abort = enters Abort
-onHeard n h LogRecord.Commit = enters Commit
+onHeard all h LogRecord.None = NotDue
+onHeard all h LogRecord.Yes = enters (unlessFull all h (Terminating h))
+onHeard all h LogRecord.Abort = enters Abort
+onHeard all h LogRecord.Commit = enters Commit
 
 -- the answer r of log j to the call pending there
 abbrev pub onAnswer : ℕ → Coordinator → ℕ → LogRecord → CoordinatorTransition
-onAnswer n Idle j r = NotDue
-onAnswer n (Waiting h) j r = NotDue
-onAnswer n (Terminating h) j r = onHeard n (insert j h) r
-onAnswer n Commit j r = NotDue
-onAnswer n Abort j r = NotDue
-onAnswer n Down j r = NotDue
-onAnswer n Retired j r = NotDue
+onAnswer all Idle j r = NotDue
+onAnswer all (Waiting h) j r = NotDue
+onAnswer all (Terminating h) j r = onHeard all (insert j h) r
+onAnswer all Commit j r = NotDue
+onAnswer all Abort j r = NotDue
+onAnswer all Down j r = NotDue
+onAnswer all Retired j r = NotDue
 
 -- Crash leads to 5, restart from there to 6
 abbrev pub onCrash : Coordinator → CoordinatorTransition

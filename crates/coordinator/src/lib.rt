@@ -1,10 +1,10 @@
-// The coordinator. `i` is the place of the participant that replies, `j` the place of a log; `n` is the number of participants.
+// The coordinator. `all` is the mask of all participants, `i` the place of the participant that replies, `j` the place of a log.
 use message::Message;
 use message::Sent;
 use store::Call;
 use store::LogRecord;
 ghost use mathlib.Core.Path.{_≡_};
-ghost use Prim.Native.Nat.{_≤_, _<_};
+ghost use Prim.Native.Nat.{_<_};
 ghost use Rattle.coordinator.specs.Coordinator.{stateNumber, heardOf, ofNumbers, isCoordinator, heardInRange, inRange, numbersInRange, to, enters, onStart, unlessFull, onReplyYes, onReplyAbort, onTimeout, pending, onHeard, onAnswer, onCrash, onRestart};
 
 // The coordinator in its state. Waiting and terminating, it has the mask of the participants heard.
@@ -32,12 +32,11 @@ fn to(c: Coordinator) -> Transition
 }
 
 // A heard mask has nobody beyond n, and not all.
-fn heard_in_range(n: u32, h: u32) -> bool
-    requires { ⌜ n ≤ 32 ⌝ }
-    ensures { λ b. ⌜ b ≡ heardInRange n h ⌝ }
+fn heard_in_range(all: u32, h: u32) -> bool
+    ensures { λ b. ⌜ b ≡ heardInRange all h ⌝ }
 {
-    if mask::within(h, n) {
-        h != mask::full(n)
+    if mask::within(h, all) {
+        h != all
     } else {
         false
     }
@@ -101,15 +100,14 @@ impl Coordinator {
         }
     }
 
-    // Whether the coordinator of n can have its heard mask.
-    fn in_range(self, n: u32) -> bool
-        requires { ⌜ n ≤ 32 ⌝ }
-        ensures { λ b. ⌜ b ≡ inRange n self ⌝ }
+    // Whether the coordinator can have its heard mask.
+    fn in_range(self, all: u32) -> bool
+        ensures { λ b. ⌜ b ≡ inRange all self ⌝ }
     {
         match self {
             Coordinator::Idle => true,
-            Coordinator::Waiting(h) => heard_in_range(n, h),
-            Coordinator::Terminating(h) => heard_in_range(n, h),
+            Coordinator::Waiting(h) => heard_in_range(all, h),
+            Coordinator::Terminating(h) => heard_in_range(all, h),
             Coordinator::Commit => true,
             Coordinator::Abort => true,
             Coordinator::Down => true,
@@ -117,13 +115,12 @@ impl Coordinator {
         }
     }
 
-    // Whether the coordinator of n can have these numbers.
-    pub fn numbers_in_range(n: u32, state: u32, heard: u32) -> bool
-        requires { ⌜ n ≤ 32 ⌝ }
-        ensures { λ b. ⌜ b ≡ numbersInRange n state heard ⌝ }
+    // Whether the coordinator can have these numbers.
+    pub fn numbers_in_range(all: u32, state: u32, heard: u32) -> bool
+        ensures { λ b. ⌜ b ≡ numbersInRange all state heard ⌝ }
     {
         if Coordinator::known(state, heard) {
-            Coordinator::of(state, heard).in_range(n)
+            Coordinator::of(state, heard).in_range(all)
         } else {
             false
         }
@@ -145,11 +142,10 @@ impl Coordinator {
     }
 
     // Commit where all are heard, else this state.
-    fn unless_full(self, n: u32, heard: u32) -> Coordinator
-        requires { ⌜ n ≤ 32 ⌝ }
-        ensures { λ c. ⌜ c ≡ unlessFull n heard self ⌝ }
+    fn unless_full(self, all: u32, heard: u32) -> Coordinator
+        ensures { λ c. ⌜ c ≡ unlessFull all heard self ⌝ }
     {
-        if heard == mask::full(n) {
+        if heard == all {
             Coordinator::Commit
         } else {
             self
@@ -174,15 +170,15 @@ impl Coordinator {
     }
 
     // A yes reply of participant i.
-    pub fn reply_yes(self, n: u32, i: u32) -> Transition
-        requires { ⌜ (n ≤ 32) × (i < 32) ⌝ }
-        ensures { λ t. ⌜ t ≡ onReplyYes n i self ⌝ }
+    pub fn reply_yes(self, all: u32, i: u32) -> Transition
+        requires { ⌜ i < 32 ⌝ }
+        ensures { λ t. ⌜ t ≡ onReplyYes all i self ⌝ }
     {
         match self {
             Coordinator::Idle => to(self),
             Coordinator::Waiting(h) => {
                 let heard = mask::insert(h, i);
-                Coordinator::Waiting(heard).unless_full(n, heard).enters()
+                Coordinator::Waiting(heard).unless_full(all, heard).enters()
             }
             Coordinator::Terminating(_) => to(self),
             Coordinator::Commit => to(self),
@@ -240,14 +236,14 @@ impl Coordinator {
     }
 
     // The answer that log j gives to the call pending there.
-    pub fn answer(self, n: u32, j: u32, r: LogRecord) -> Transition
-        requires { ⌜ (n ≤ 32) × (j < 32) ⌝ }
-        ensures { λ t. ⌜ t ≡ onAnswer n self j r ⌝ }
+    pub fn answer(self, all: u32, j: u32, r: LogRecord) -> Transition
+        requires { ⌜ j < 32 ⌝ }
+        ensures { λ t. ⌜ t ≡ onAnswer all self j r ⌝ }
     {
         match self {
             Coordinator::Idle => Transition::NotDue,
             Coordinator::Waiting(_) => Transition::NotDue,
-            Coordinator::Terminating(h) => heard_answered(n, mask::insert(h, j), r),
+            Coordinator::Terminating(h) => heard_answered(all, mask::insert(h, j), r),
             Coordinator::Commit => Transition::NotDue,
             Coordinator::Abort => Transition::NotDue,
             Coordinator::Down => Transition::NotDue,
@@ -285,14 +281,13 @@ impl Coordinator {
 }
 
 // The answer to LogOnce(abort), in terminating; `heard` has that log too.
-fn heard_answered(n: u32, heard: u32, r: LogRecord) -> Transition
-    requires { ⌜ n ≤ 32 ⌝ }
-    ensures { λ t. ⌜ t ≡ onHeard n heard r ⌝ }
+fn heard_answered(all: u32, heard: u32, r: LogRecord) -> Transition
+    ensures { λ t. ⌜ t ≡ onHeard all heard r ⌝ }
 {
     match r {
         LogRecord::None => Transition::NotDue,
         LogRecord::Yes => Coordinator::Terminating(heard)
-            .unless_full(n, heard)
+            .unless_full(all, heard)
             .enters(),
         LogRecord::Abort => Coordinator::Abort.enters(),
         LogRecord::Commit => Coordinator::Commit.enters(),

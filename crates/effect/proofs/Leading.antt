@@ -42,8 +42,8 @@ pub masks : (f : ℕ → ℕ) (m : Message) (l : List ℕ) → Puts (λ r. withM
 masks f m l r h e =
     ap (λ x. withMaskIn m (f (maskIn x m)) x) e ∙ ap (λ x. withMaskIn m (f x) (fields r)) (mask-in r h m) ∙ with-mask r h m (f (maskOf r m))
 
-pub masks-all : (n : ℕ) (m : Message) (l : List ℕ) → PutsUnder n (broadcast (Sent.Sends m)) l (withMaskIn m (full n) l)
-masks-all n m l r h q e = ap (λ x. withMaskIn m (full n) x) e ∙ ap (λ x. withMaskIn m (full x) (fields r)) (sym q) ∙ with-mask r h m (full (r .n))
+pub masks-all : (all : ℕ) (m : Message) (l : List ℕ) → PutsUnder all (broadcast (Sent.Sends m)) l (withMaskIn m all l)
+masks-all all m l r h q e = ap (withMaskIn m all) e ∙ ap (λ x. withMaskIn m x (fields r)) (sym q) ∙ with-mask r h m (full (r .n))
 
 -- a party goes to a state
 
@@ -57,59 +57,59 @@ participant-goes i p s l k g u r h e = (
   refl,
 )
 
-pub coordinator-goes : (n : ℕ) (c : Coordinator) (s : Sent) (l k : List ℕ) → PutsUnder n (broadcast s) l k
-    → LeadsUnder n (coordinatorTo c s) l (learnt (coordinatorKnown (coordinatorIn l)) (coordinatorKnown c)) (withCoordinatorIn c k)
+pub coordinator-goes : (all : ℕ) (c : Coordinator) (s : Sent) (l k : List ℕ) → PutsUnder all (broadcast s) l k
+    → LeadsUnder all (coordinatorTo c s) l (learnt (coordinatorKnown (coordinatorIn l)) (coordinatorKnown c)) (withCoordinatorIn c k)
 unfolding coordinatorTo
-coordinator-goes n c s l k u r h q e = (
+coordinator-goes all c s l k u r h q e = (
   ap (λ x. learnt (coordinatorKnown (coordinatorIn x)) (coordinatorKnown c)) e ∙ ap (λ x. learnt (coordinatorKnown x) (coordinatorKnown c)) (coordinator-in r h),
   ap (withCoordinatorIn c) (u r h q e) ∙ with-coordinator (broadcast s r) (broadcast-places s r h) c,
   broadcast-store s r,
   refl,
 )
 
--- what takes no n takes any
+-- what takes no mask takes any
 
-pub under : (n : ℕ) (f : Release → Report) (l k : List ℕ) (o : Outcome) → Leads f l o k → LeadsUnder n f l o k
-under n f l k o u r h q e = u r h e
+pub under : (all : ℕ) (f : Release → Report) (l k : List ℕ) (o : Outcome) → Leads f l o k → LeadsUnder all f l o k
+under all f l k o u r h q e = u r h e
 
 -- a message is taken out of flight, and what follows comes after that
-pub after-mask : (n : ℕ) (f : Release → Report) (g : ℕ → ℕ) (t : Message) (l k m : List ℕ) (o : Outcome) → Puts (λ r. withMask t (g (maskOf r t)) r) l k
-    → LeadsUnder n f k o m → LeadsUnder n (λ r. f (withMask t (g (maskOf r t)) r)) l o m
-after-mask n f g t l k m o a b r h q e = b (withMask t (g (maskOf r t)) r) (masked-places t _ r h) q (a r h e)
+pub after-mask : (all : ℕ) (f : Release → Report) (g : ℕ → ℕ) (t : Message) (l k m : List ℕ) (o : Outcome) → Puts (λ r. withMask t (g (maskOf r t)) r) l k
+    → LeadsUnder all f k o m → LeadsUnder all (λ r. f (withMask t (g (maskOf r t)) r)) l o m
+after-mask all f g t l k m o a b r h q e = b (withMask t (g (maskOf r t)) r) (masked-places t _ r h) q (a r h e)
 
 -- a step of a message that is in flight, and of one that is not
 
 flight : (m : Message) (i : ℕ) (l : List ℕ) (b : Bool) → b ≡ has i (maskIn l m) → (r : Release) → HasPlaces r → l ≡ fields r → inFlight r m i ≡ b
 flight m i l b q r h e = ap (has i) (sym (mask-in r h m)) ∙ ap (λ x. has i (maskIn x m)) (sym e) ∙ sym q
 
-pub in-flight-leads : (n : ℕ) (f : Release → Report) (m : Message) (i : ℕ) (l k : List ℕ) (o : Outcome) (b : Bool) → b ≡ true → b ≡ has i (maskIn l m) → LeadsUnder n f l o k
-    → LeadsUnder n (λ r. cond (inFlight r m i) (f r) (idle r)) l o k
-in-flight-leads n f m i l k o b t q u r h w e = rw (flight m i l b q r h e, t) (u r h w e)
+pub in-flight-leads : (all : ℕ) (f : Release → Report) (m : Message) (i : ℕ) (l k : List ℕ) (o : Outcome) (b : Bool) → b ≡ true → b ≡ has i (maskIn l m) → LeadsUnder all f l o k
+    → LeadsUnder all (λ r. cond (inFlight r m i) (f r) (idle r)) l o k
+in-flight-leads all f m i l k o b t q u r h w e = rw (flight m i l b q r h e, t) (u r h w e)
 
-pub no-flight-leads : (n : ℕ) (f : Release → Report) (m : Message) (i : ℕ) (l : List ℕ) (b : Bool) → b ≡ false → b ≡ has i (maskIn l m)
-    → LeadsUnder n (λ r. cond (inFlight r m i) (f r) (idle r)) l Outcome.Idle l
-no-flight-leads n f m i l b t q r h w e = rw (flight m i l b q r h e, t) (refl, e, refl, refl)
+pub no-flight-leads : (all : ℕ) (f : Release → Report) (m : Message) (i : ℕ) (l : List ℕ) (b : Bool) → b ≡ false → b ≡ has i (maskIn l m)
+    → LeadsUnder all (λ r. cond (inFlight r m i) (f r) (idle r)) l Outcome.Idle l
+no-flight-leads all f m i l b t q r h w e = rw (flight m i l b q r h e, t) (refl, e, refl, refl)
 
--- a step that reads parts of the release: n, the votes, the coordinator, participant i
+-- a step that reads parts of the release: the mask of all participants, the votes, the coordinator, participant i
 
-module _ (n i : ℕ) (l : List ℕ) (g : i < places) (F : ℕ → ℕ → Coordinator → Participant → Release → Report) (r : Release) (h : HasPlaces r) (q : r .n ≡ n) (e : l ≡ fields r) where
-  pub same-parts : F n (votesIn l) (coordinatorIn l) (participantIn l i) ≡ F (r .n) (r .votes) (r .coordinator) (participantOf r i)
+module _ (all i : ℕ) (l : List ℕ) (g : i < places) (F : ℕ → ℕ → Coordinator → Participant → Release → Report) (r : Release) (h : HasPlaces r) (q : full (r .n) ≡ all) (e : l ≡ fields r) where
+  pub same-parts : F all (votesIn l) (coordinatorIn l) (participantIn l i) ≡ F (full (r .n)) (r .votes) (r .coordinator) (participantOf r i)
   same-parts =
       ap (λ x. F x (votesIn l) (coordinatorIn l) (participantIn l i)) (sym q)
-      ∙ ap (λ x. F (r .n) (votesIn x) (coordinatorIn x) (participantIn x i)) e
-      ∙ ap (λ x. F (r .n) x (coordinatorIn (fields r)) (participantIn (fields r) i)) (same-votes r h)
-      ∙ ap (λ x. F (r .n) (r .votes) x (participantIn (fields r) i)) (coordinator-in r h)
-      ∙ ap (λ x. F (r .n) (r .votes) (r .coordinator) x) (participant-in r h i g)
+      ∙ ap (λ x. F (full (r .n)) (votesIn x) (coordinatorIn x) (participantIn x i)) e
+      ∙ ap (λ x. F (full (r .n)) x (coordinatorIn (fields r)) (participantIn (fields r) i)) (same-votes r h)
+      ∙ ap (λ x. F (full (r .n)) (r .votes) x (participantIn (fields r) i)) (coordinator-in r h)
+      ∙ ap (λ x. F (full (r .n)) (r .votes) (r .coordinator) x) (participant-in r h i g)
 
-pub reads : (n i : ℕ) (l k : List ℕ) (o : Outcome) → i < places → (F : ℕ → ℕ → Coordinator → Participant → Release → Report)
-    → LeadsUnder n (F n (votesIn l) (coordinatorIn l) (participantIn l i)) l o k → LeadsUnder n (λ r. F (r .n) (r .votes) (r .coordinator) (participantOf r i) r) l o k
-reads n i l k o g F u r h q e =
-    subst (λ (f : Release → Report). (o ≡ f r .outcome) × (k ≡ fields (f r .next)) × (r .store ≡ f r .next .store) × (f r .closed ≡ false)) (same-parts n i l g F r h q e) (u r h q e)
+pub reads : (all i : ℕ) (l k : List ℕ) (o : Outcome) → i < places → (F : ℕ → ℕ → Coordinator → Participant → Release → Report)
+    → LeadsUnder all (F all (votesIn l) (coordinatorIn l) (participantIn l i)) l o k → LeadsUnder all (λ r. F (full (r .n)) (r .votes) (r .coordinator) (participantOf r i) r) l o k
+reads all i l k o g F u r h q e =
+    subst (λ (f : Release → Report). (o ≡ f r .outcome) × (k ≡ fields (f r .next)) × (r .store ≡ f r .next .store) × (f r .closed ≡ false)) (same-parts all i l g F r h q e) (u r h q e)
 
 -- a number from 1 on is one more than its place
 
 pub number-place : (p : ℕ) → 1 ≤ p → suc (p - 1) ≡ p
 number-place p g = omega arith
 
-pub numbered : (n : ℕ) (f : ℕ → Release → Report) (p : ℕ) (l k : List ℕ) (o : Outcome) → 1 ≤ p → LeadsUnder n (f (suc (p - 1))) l o k → LeadsUnder n (f p) l o k
-numbered n f p l k o g u = subst (λ x. LeadsUnder n (f x) l o k) (number-place p g) u
+pub numbered : (all : ℕ) (f : ℕ → Release → Report) (p : ℕ) (l k : List ℕ) (o : Outcome) → 1 ≤ p → LeadsUnder all (f (suc (p - 1))) l o k → LeadsUnder all (f p) l o k
+numbered all f p l k o g u = subst (λ x. LeadsUnder all (f x) l o k) (number-place p g) u

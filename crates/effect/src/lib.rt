@@ -1,5 +1,6 @@
 // What messages and transitions do to a release, and what that reports: `fields` are its numbers, and those of the parts that are named change in
-// place. A contract says what this is for the release that they represent. `i` is a place, which counts from 0; `n` is the release's own.
+// place. A contract says what this is for the release that they represent. `i` is a place, which counts from 0; `all` is the mask
+// of all its participants.
 pub mod outcome;
 
 use coordinator::Coordinator;
@@ -20,7 +21,7 @@ use state::put_mask;
 use state::put_participant;
 use state::votes;
 ghost use mathlib.Core.Path.{_≡_};
-ghost use Prim.Native.Nat.{_≤_, _<_};
+ghost use Prim.Native.Nat.{_<_};
 ghost use Rattle.mask.specs.Mask.{has};
 ghost use Rattle.store.specs.Log.{places};
 ghost use Rattle.rules.specs.Step.{takeOut, reply, participantTo, participantGoes, broadcast, coordinatorTo, coordinatorGoes, receive};
@@ -42,13 +43,12 @@ fn send(fields: &mut [u32; FIELDS], s: Sent, i: u32)
 }
 
 // The coordinator sends to all.
-fn send_all(fields: &mut [u32; FIELDS], n: u32, s: Sent)
-    requires { ⌜ n ≤ places ⌝ }
-    ensures { λ _. ⌜ PutsUnder n (broadcast s) (now (fields .entry)) (now (fields .exit)) ⌝ }
+fn send_all(fields: &mut [u32; FIELDS], all: u32, s: Sent)
+    ensures { λ _. ⌜ PutsUnder all (broadcast s) (now (fields .entry)) (now (fields .exit)) ⌝ }
 {
     match s {
         Sent::Nothing => {}
-        Sent::Sends(m) => put_mask(fields, m, mask::full(n)),
+        Sent::Sends(m) => put_mask(fields, m, all),
     }
 }
 
@@ -89,38 +89,36 @@ pub fn participant_goes(fields: &mut [u32; FIELDS], i: u32, t: participant::Tran
 }
 
 // The coordinator goes to a state and sends to all.
-pub fn coordinator_to(fields: &mut [u32; FIELDS], n: u32, c: Coordinator, s: Sent) -> Outcome
-    requires { ⌜ n ≤ places ⌝ }
-    ensures { λ o. ⌜ LeadsUnder n (coordinatorTo c s) (now (fields .entry)) o (now (fields .exit)) ⌝ }
+pub fn coordinator_to(fields: &mut [u32; FIELDS], all: u32, c: Coordinator, s: Sent) -> Outcome
+    ensures { λ o. ⌜ LeadsUnder all (coordinatorTo c s) (now (fields .entry)) o (now (fields .exit)) ⌝ }
 {
     let old = coordinator(fields);
-    send_all(fields, n, s);
+    send_all(fields, all, s);
     put_coordinator(fields, c);
     learnt(coordinator_known(old), coordinator_known(c))
 }
 
-pub fn coordinator_goes(fields: &mut [u32; FIELDS], n: u32, t: coordinator::Transition) -> Outcome
-    requires { ⌜ n ≤ places ⌝ }
-    ensures { λ o. ⌜ LeadsUnder n (coordinatorGoes t) (now (fields .entry)) o (now (fields .exit)) ⌝ }
+pub fn coordinator_goes(fields: &mut [u32; FIELDS], all: u32, t: coordinator::Transition) -> Outcome
+    ensures { λ o. ⌜ LeadsUnder all (coordinatorGoes t) (now (fields .entry)) o (now (fields .exit)) ⌝ }
 {
     match t {
         coordinator::Transition::NotDue => Outcome::Idle,
-        coordinator::Transition::To(c, s) => coordinator_to(fields, n, c, s),
+        coordinator::Transition::To(c, s) => coordinator_to(fields, all, c, s),
     }
 }
 
 // A message is delivered: requests and decisions to participant i, replies from it to the coordinator.
-pub fn receive(fields: &mut [u32; FIELDS], n: u32, m: Message, i: u32) -> Outcome
-    requires { ⌜ (n ≤ places) × (i < places) ⌝ }
-    ensures { λ o. ⌜ LeadsUnder n (receive m i) (now (fields .entry)) o (now (fields .exit)) ⌝ }
+pub fn receive(fields: &mut [u32; FIELDS], all: u32, m: Message, i: u32) -> Outcome
+    requires { ⌜ i < places ⌝ }
+    ensures { λ o. ⌜ LeadsUnder all (receive m i) (now (fields .entry)) o (now (fields .exit)) ⌝ }
 {
     let c = coordinator(fields);
     let p = participant_at(fields, i);
     let vote = mask::has(votes(fields), i);
     match m {
         Message::Request => participant_to(fields, i, p.request(vote), Sent::Nothing),
-        Message::ReplyYes => coordinator_goes(fields, n, c.reply_yes(n, i)),
-        Message::ReplyAbort => coordinator_goes(fields, n, c.reply_abort()),
+        Message::ReplyYes => coordinator_goes(fields, all, c.reply_yes(all, i)),
+        Message::ReplyAbort => coordinator_goes(fields, all, c.reply_abort()),
         Message::Commit => participant_to(fields, i, p.decision(Decision::Commit), Sent::Nothing),
         Message::Abort => participant_to(fields, i, p.decision(Decision::Abort), Sent::Nothing),
     }

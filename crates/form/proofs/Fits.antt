@@ -11,7 +11,7 @@ use borrow.Author.Tests.{eqb-true, le-ltb, lt-leb}
 use Rattle.number.proofs.Laws.{and-left, and-right}
 use Rattle.number.proofs.LowBytes.{low-bits}
 use Rattle.number.proofs.Table.{every-at, length-tabulate}
-use Rattle.mask.specs.Mask.{within}
+use Rattle.mask.specs.Mask.{full, within}
 use Rattle.mask.proofs.Laws.{within-lt, none-within}
 use Rattle.store.specs.Log.{places, recordOf, isRecord}
 use Rattle.store.proofs.Numbers.{record-numbers, record-most}
@@ -57,12 +57,12 @@ record-small : (x : ℕ) → isRecord x ≡ true → x < 256
 record-small x q = omega (arith, record-most (recordOf x), record-numbers .encoded x q)
 
 module _ (w n i : ℕ) (f : ParticipantFields) (fits : (m : ℕ) → within n m ≡ true → m < 256 ^ w) where
-  fields-fit : (b : Bool) → cond b (Participant.numbersInRange n i (f .state) (f .heard) && recordsInRange f) (fieldsZero f) ≡ true → FieldsFit w f
+  fields-fit : (b : Bool) → cond b (Participant.numbersInRange (full n) i (f .state) (f .heard) && recordsInRange f) (fieldsZero f) ≡ true → FieldsFit w f
   fields-fit true q =
-      let p = and-left (Participant.numbersInRange n i (f .state) (f .heard)) _ q in
+      let p = and-left (Participant.numbersInRange (full n) i (f .state) (f .heard)) _ q in
       let e = participant-numbers .encoded (f .state) (f .heard) (and-left _ _ p) in
       let h = heard-within n i (Participant.ofNumbers (f .state) (f .heard)) (and-right (Participant.isParticipant (f .state) (f .heard)) _ p) in
-      let r = and-right (Participant.numbersInRange n i (f .state) (f .heard)) _ q in
+      let r = and-right (Participant.numbersInRange (full n) i (f .state) (f .heard)) _ q in
       record {
         state = omega (arith, state-most (Participant.ofNumbers (f .state) (f .heard)), e .0);
         heard = fits (f .heard) (rw (e .1) at h);
@@ -96,14 +96,14 @@ range-fits k limit t some most has q =
     fits : (m : ℕ) → within (t .n) m ≡ true → m < 256 ^ formOf k .width
     fits m = mask-fits k (t .n) m (size .1)
 
-    coordinator : Coordinator.numbersInRange (t .n) (t .state) (t .heard) ≡ true
-    coordinator = and-left (Coordinator.numbersInRange (t .n) (t .state) (t .heard)) _ (parties-in-range k limit t q)
+    coordinator : Coordinator.numbersInRange (full (t .n)) (t .state) (t .heard) ≡ true
+    coordinator = and-left (Coordinator.numbersInRange (full (t .n)) (t .state) (t .heard)) _ (parties-in-range k limit t q)
 
     own : (Coordinator.stateNumber (Coordinator.ofNumbers (t .state) (t .heard)) ≡ t .state) × (Coordinator.heardOf (Coordinator.ofNumbers (t .state) (t .heard)) ≡ t .heard)
     own = coordinator-numbers .encoded (t .state) (t .heard) (and-left _ _ coordinator)
 
     tested : (i : ℕ) → i < places → participantInRange (t .n) i (fieldsAt t i) ≡ true
-    tested i l = every-at (λ j. participantInRange (t .n) j (fieldsAt t j)) places i l (and-right (Coordinator.numbersInRange (t .n) (t .state) (t .heard)) _ (parties-in-range k limit t q))
+    tested i l = every-at (λ j. participantInRange (t .n) j (fieldsAt t j)) places i l (and-right (Coordinator.numbersInRange (full (t .n)) (t .state) (t .heard)) _ (parties-in-range k limit t q))
 
     none : (i : ℕ) → formOf k .places ≤ i → getD (t .participants) i zeros ≡ zeros
     none i l = go (decLt i places)

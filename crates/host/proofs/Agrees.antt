@@ -5,6 +5,7 @@ use Prim.Native.Nat.{ℕ, suc, _-_, _≤_, _<_}
 use native.Mathlib.Omega.{arith}
 use borrow.Author.Tests.{le-leb}
 use Rattle.number.proofs.Laws.{and-true, are-numbers, are-numbers3}
+use Rattle.mask.specs.Mask.{full}
 use Rattle.store.specs.Log.{log, perform, places}
 use Rattle.participant.specs.Participant
 use Rattle.participant.proofs.Numbers.{participant-numbers}
@@ -23,7 +24,7 @@ use Rattle.host.specs.Agrees.{leads, HostAgrees, HostAgreesReached}
 -- the numbers of a participant and of an event are in range, and lead to what those lead to
 
 module _ (n i : ℕ) (p : Participant) (e : Event) where
-  numbers-in-range : n ≤ room Kind.WideHeader → i < n → Participant.inRange n i p ≡ true → eventInRange n e ≡ true
+  numbers-in-range : n ≤ room Kind.WideHeader → i < n → Participant.inRange (full n) i p ≡ true → eventInRange n e ≡ true
       → hostInRange n (suc i) (Participant.stateNumber p) (Participant.heardOf p) (eventNumber e) (detailNumber e) (answerNumber e) ≡ true
   numbers-in-range l h q g =
       and-true _ _ (and-true _ _ (le-leb 1 n (omega arith)) (le-leb n (room Kind.WideHeader) l))
@@ -31,13 +32,13 @@ module _ (n i : ℕ) (p : Participant) (e : Event) where
       (and-true _ _ participant
       (and-true _ _ (are-numbers3 eventNumber detailNumber answerNumber eventOf event-numbers e) (ap (eventInRange n) (event-numbers .decoded e) ∙ g))))
     where
-      participant : Participant.numbersInRange n (suc i - 1) (Participant.stateNumber p) (Participant.heardOf p) ≡ true
+      participant : Participant.numbersInRange (full n) (suc i - 1) (Participant.stateNumber p) (Participant.heardOf p) ≡ true
       participant =
           and-true _ _ (are-numbers Participant.stateNumber Participant.heardOf Participant.ofNumbers participant-numbers p)
-          (ap₂ (λ (k : ℕ) (x : Participant). Participant.inRange n k x) (omega arith) (participant-numbers .decoded p) ∙ q)
+          (ap₂ (λ (k : ℕ) (x : Participant). Participant.inRange (full n) k x) (omega arith) (participant-numbers .decoded p) ∙ q)
 
-  numbers-lead : hostTransition n (suc i) (Participant.stateNumber p) (Participant.heardOf p) (eventNumber e) (detailNumber e) (answerNumber e) ≡ onEvent n i p e
-  numbers-lead = ap₂ (λ (k : ℕ) (x : Participant). onEvent n k x (eventOf (eventNumber e) (detailNumber e) (answerNumber e))) (omega arith) (participant-numbers .decoded p) ∙ ap (onEvent n i p) (event-numbers .decoded e)
+  numbers-lead : hostTransition n (suc i) (Participant.stateNumber p) (Participant.heardOf p) (eventNumber e) (detailNumber e) (answerNumber e) ≡ onEvent (full n) i p e
+  numbers-lead = ap₂ (λ (k : ℕ) (x : Participant). onEvent (full n) k x (eventOf (eventNumber e) (detailNumber e) (answerNumber e))) (omega arith) (participant-numbers .decoded p) ∙ ap (onEvent (full n) i p) (event-numbers .decoded e)
 
 -- a call that the store performs is pending
 abbrev Pending : Call → Performed → Type 0
@@ -59,7 +60,7 @@ unfolding participantCalls
 call-agrees r i j x q =
     rw q
     (ap (λ (t : Transition). participantAnswered true i j x t r)
-    (sym (pending (Participant.onAnswer (r .n) i (participantOf r i) j (x .answer))) ∙ ap (λ (k : ℕ). answered (r .n) i (participantOf r i) k (x .answer)) place))
+    (sym (pending (Participant.onAnswer (full (r .n)) i (participantOf r i) j (x .answer))) ∙ ap (λ (k : ℕ). answered (full (r .n)) i (participantOf r i) k (x .answer)) place))
   where
     place : j ≡ suc j - 1
     place = omega arith

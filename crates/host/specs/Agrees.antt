@@ -6,7 +6,7 @@ use mathlib.Core.List.{List}
 use Prim.Native.Nat.{ℕ, suc, _≤_, _<_}
 use Rattle.kind.specs.Kind.{room}
 use Rattle.kind.specs.Step.{AllInRange}
-use Rattle.mask.specs.Mask.{has, within}
+use Rattle.mask.specs.Mask.{has, full, within}
 use Rattle.store.specs.Log.{perform, places}
 use Rattle.participant.specs.Participant
 use Rattle.rules.specs.State.{participantOf, logOf, inFlight, fresh}
@@ -18,7 +18,7 @@ use Rattle.host.specs.Host.{onEvent, returned, left, hostReturns, hostLe
 
 -- what an event leads participant i to
 abbrev pub leads : Release → ℕ → Event → Transition
-leads r i e = onEvent (r .n) i (participantOf r i) e
+leads r i e = onEvent (full (r .n)) i (participantOf r i) e
 
 pub record Agrees (r : Release) (i : ℕ) : Type 0 where
   -- the entry, on the numbers of participant i and of the event
@@ -50,7 +50,7 @@ pub record Agrees (r : Release) (i : ℕ) : Type 0 where
 
 -- for every participant in range
 abbrev pub HostAgrees : Type 0
-HostAgrees = (r : Release) (i : ℕ) → r .n ≤ room Kind.WideHeader → i < r .n → Participant.inRange (r .n) i (participantOf r i) ≡ true → Agrees r i
+HostAgrees = (r : Release) (i : ℕ) → r .n ≤ room Kind.WideHeader → i < r .n → Participant.inRange (full (r .n)) i (participantOf r i) ≡ true → Agrees r i
 
 -- so for every one that a run reaches
 abbrev pub HostAgreesReached : Type 0

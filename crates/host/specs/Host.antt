@@ -7,6 +7,7 @@ use lib.ListN.{length}
 use lib.Seq.{sets}
 use Rattle.number.specs.Refusal.{accepted, outOfRange, tooShort, notDue}
 use Rattle.number.specs.Low.{lowBytes}
+use Rattle.mask.specs.Mask.{full}
 use Rattle.message.specs.Message.{sentNumber}
 use Rattle.participant.specs.Participant
 use Rattle.kind.specs.Kind.{room}
@@ -14,31 +15,34 @@ use Rattle.kind.specs.Step.{numberInRange}
 use Rattle.event.specs.Event.{eventOf, numbersInRange}
 use Rattle.host.specs.Types.{Kind, LogRecord, Call, Sent, Participant, Transition, NotDue, To, Event}
 
--- An answer counts only where its call is pending; `own` and `j` are places
+-- An answer counts only where its call is pending; `all` is the mask of all participants, `own` and `j` are places
 abbrev pub answers : Call → Transition → Transition
 answers Call.None t = NotDue
 answers (Call.LogOnce r) t = t
 answers (Call.Log r) t = t
 
 abbrev pub answered : ℕ → ℕ → Participant → ℕ → LogRecord → Transition
-answered n own p j r = answers (Participant.pending own p j) (Participant.onAnswer n own p j r)
+answered all own p j r = answers (Participant.pending own p j) (Participant.onAnswer all own p j r)
 
 -- what an event leads to. Events 1 and 2 are always due
 abbrev pub onEvent : ℕ → ℕ → Participant → Event → Transition
-onEvent n own p (Event.Request vote) = Participant.to (Participant.onRequest vote p)
-onEvent n own p (Event.Decided d) = Participant.to (Participant.onDecision d p)
-onEvent n own p Event.Timeout = Participant.onTimeout n own p
-onEvent n own p Event.Crash = Participant.onCrash p
-onEvent n own p Event.Restart = Participant.onRestart p
-onEvent n own p (Event.Answer log r) = answered n own p (log - 1) r
+onEvent all own p (Event.Request vote) = Participant.to (Participant.onRequest vote p)
+onEvent all own p (Event.Decided d) = Participant.to (Participant.onDecision d p)
+onEvent all own p Event.Timeout = Participant.onTimeout all own p
+onEvent all own p Event.Crash = Participant.onCrash p
+onEvent all own p Event.Restart = Participant.onRestart p
+onEvent all own p (Event.Answer log r) = answered all own p (log - 1) r
 
 -- n, own number, state, heard mask, event, detail, record: each in range. Request 2026-03: n up to 32, and masks of 32 bits
+
+abbrev pub amongInRange : ℕ → ℕ → ℕ → ℕ → ℕ → ℕ → ℕ → Bool
+amongInRange n own s h e d r = numberInRange 1 own n && (Participant.numbersInRange (full n) (own - 1) s h && numbersInRange n e d r)
+
 abbrev pub hostInRange : ℕ → ℕ → ℕ → ℕ → ℕ → ℕ → ℕ → Bool
-hostInRange n own s h e d r =
-    numberInRange 1 n (room Kind.WideHeader) && (numberInRange 1 own n && (Participant.numbersInRange n (own - 1) s h && numbersInRange n e d r))
+hostInRange n own s h e d r = numberInRange 1 n (room Kind.WideHeader) && amongInRange n own s h e d r
 
 abbrev pub hostTransition : ℕ → ℕ → ℕ → ℕ → ℕ → ℕ → ℕ → Transition
-hostTransition n own s h e d r = onEvent n (own - 1) (Participant.ofNumbers s h) (eventOf e d r)
+hostTransition n own s h e d r = onEvent (full n) (own - 1) (Participant.ofNumbers s h) (eventOf e d r)
 
 -- Request 2026-03: six bytes come back: state, heard mask in four, low byte first, message type sent or 0
 

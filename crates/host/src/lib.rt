@@ -1,4 +1,5 @@
-// The host's entry: one participant, stepped from C on document 01's numbers. `own` is a participant's number; `place` is that less one.
+// The host's entry: one participant, stepped from C on document 01's numbers. `own` is a participant's number; `place` is that less one;
+// `all` is the mask of all participants.
 use event::Event;
 use kind::Kind;
 use kind::between;
@@ -15,8 +16,9 @@ ghost use mathlib.Core.Path.{_≡_};
 ghost use mathlib.Core.Bool.{true};
 ghost use Prim.Native.Nat.{_≤_, _<_};
 ghost use lib.ListN.{length};
+ghost use Rattle.mask.specs.Mask.{full};
 ghost use Rattle.event.specs.Event.{eventInRange};
-ghost use Rattle.host.specs.Host.{answers, answered, onEvent, hostInRange, returned, left, hostReturns, hostLeaves};
+ghost use Rattle.host.specs.Host.{answers, answered, onEvent, amongInRange, returned, left, hostReturns, hostLeaves};
 
 // An answer counts only where its call is pending.
 fn answers(c: Call, t: Transition) -> Transition
@@ -29,25 +31,25 @@ fn answers(c: Call, t: Transition) -> Transition
     }
 }
 
-fn answered(n: u32, place: u32, p: Participant, j: u32, r: LogRecord) -> Transition
-    requires { ⌜ (n ≤ 32) × (place < 32) × (j < 32) ⌝ }
-    ensures { λ t. ⌜ t ≡ answered n place p j r ⌝ }
+fn answered(all: u32, place: u32, p: Participant, j: u32, r: LogRecord) -> Transition
+    requires { ⌜ (place < 32) × (j < 32) ⌝ }
+    ensures { λ t. ⌜ t ≡ answered all place p j r ⌝ }
 {
-    answers(p.pending(place, j), p.answer(n, place, j, r))
+    answers(p.pending(place, j), p.answer(all, place, j, r))
 }
 
 // What an event leads a participant to.
-fn on_event(n: u32, place: u32, p: Participant, e: Event) -> Transition
-    requires { ⌜ (n ≤ 32) × (place < 32) × (eventInRange n e ≡ true) ⌝ }
-    ensures { λ t. ⌜ t ≡ onEvent n place p e ⌝ }
+fn on_event(all: u32, place: u32, p: Participant, e: Event) -> Transition
+    requires { ⌜ (place < 32) × (eventInRange 32 e ≡ true) ⌝ }
+    ensures { λ t. ⌜ t ≡ onEvent all place p e ⌝ }
 {
     match e {
         Event::Request(vote) => to(p.request(vote)),
         Event::Decided(d) => to(p.decision(d)),
-        Event::Timeout => p.timeout(n, place),
+        Event::Timeout => p.timeout(all, place),
         Event::Crash => p.crash(),
         Event::Restart => p.restart(),
-        Event::Answer(log, r) => answered(n, place, p, log - 1, r),
+        Event::Answer(log, r) => answered(all, place, p, log - 1, r),
     }
 }
 
@@ -74,17 +76,23 @@ fn hand_over(t: Transition, out: &mut [u8]) -> u32
     }
 }
 
-// Whether the seven numbers are in range.
-fn in_range(n: u32, own: u32, state: u32, heard: u32, event: u32, detail: u32, answer: u32) -> bool
-    ensures { λ b. ⌜ b ≡ hostInRange n own state heard event detail answer ⌝ }
+// Whether the other numbers are in range, among n participants.
+fn in_range(
+    n: u32,
+    all: u32,
+    own: u32,
+    state: u32,
+    heard: u32,
+    event: u32,
+    detail: u32,
+    answer: u32,
+) -> bool
+    requires { ⌜ (n ≤ 32) × (all ≡ full n) ⌝ }
+    ensures { λ b. ⌜ b ≡ amongInRange n own state heard event detail answer ⌝ }
 {
-    if between(1, n, Kind::WIDE) {
-        if between(1, own, n) {
-            if Participant::numbers_in_range(n, own - 1, state, heard) {
-                Event::numbers_in_range(n, event, detail, answer)
-            } else {
-                false
-            }
+    if between(1, own, n) {
+        if Participant::numbers_in_range(all, own - 1, state, heard) {
+            Event::numbers_in_range(n, event, detail, answer)
         } else {
             false
         }
@@ -107,10 +115,15 @@ pub extern "C" fn cornus_participant_step(
 ) -> u32
     ensures { λ k. ⌜ (k ≡ hostReturns (length (now (out .entry))) n own state heard event detail answer) × (now (out .exit) ≡ hostLeaves (now (out .entry)) n own state heard event detail answer) ⌝ }
 {
-    if in_range(n, own, state, heard, event, detail, answer) {
-        let p = Participant::of(state, heard);
-        let e = Event::of(event, detail, answer);
-        hand_over(on_event(n, own - 1, p, e), out)
+    if between(1, n, Kind::WIDE) {
+        let all = mask::full(n);
+        if in_range(n, all, own, state, heard, event, detail, answer) {
+            let p = Participant::of(state, heard);
+            let e = Event::of(event, detail, answer);
+            hand_over(on_event(all, own - 1, p, e), out)
+        } else {
+            OUT_OF_RANGE
+        }
     } else {
         OUT_OF_RANGE
     }

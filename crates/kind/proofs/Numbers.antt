@@ -185,7 +185,7 @@ more-calls : (p j n m : ℕ) → n ≤ m → leb p n && numberInRange 1 j n ≡ 
 more-calls p j n m h q =
     and-true _ _ (more-parties p n m h (and-left (leb p n) _ q)) (more-numbers 1 j n m h (and-right (leb p n) _ q))
 
-more-steps : (n m : ℕ) → n ≤ m → (s : Step) → inRange n s ≡ true → inRange m s ≡ true
+pub more-steps : (n m : ℕ) → n ≤ m → (s : Step) → inRange n s ≡ true → inRange m s ≡ true
 more-steps n m h Step.Start q = refl
 more-steps n m h (Step.Deliver x p) q = more-numbers 1 p n m h q
 more-steps n m h (Step.Copy x p) q = more-numbers 1 p n m h q

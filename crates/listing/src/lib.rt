@@ -10,7 +10,7 @@ use passes::first_step;
 use passes::run_steps;
 use passes::validate;
 use rules::Release;
-use schedule::Header;
+use schedule::Context;
 use schedule::LONGEST;
 use start::read_start;
 use start::validate_from;
@@ -75,18 +75,18 @@ fn put_listing(bytes: &[u8], last: &[u8], text: &mut [u8]) -> Written
 fn list_steps(
     schedule: &[u8],
     start: usize,
-    header: Header,
+    context: Context,
     steps: usize,
     numbers: &mut [u32; FIELDS],
     store: Store,
     text: &mut [u8],
 ) -> Written
-    requires { ⌜ Ready (now schedule) start header steps (now numbers) store × (length (now schedule) ≤ longest) ⌝ }
-    ensures { λ x. ⌜ (x ≡ textAnswer (length (now (text .entry))) (readingText (λ _. releaseIn (now (numbers .entry)) store) (readingFrom (now (schedule .entry)) header start)))
-        × (now (text .exit) ≡ textLeft (now (text .entry)) (readingText (λ _. releaseIn (now (numbers .entry)) store) (readingFrom (now (schedule .entry)) header start))) ⌝ }
+    requires { ⌜ Ready (now schedule) start context steps (now numbers) store × (length (now schedule) ≤ longest) ⌝ }
+    ensures { λ x. ⌜ (x ≡ textAnswer (length (now (text .entry))) (readingText (λ _. releaseIn (now (numbers .entry)) store) (readingFrom (now (schedule .entry)) (context .header) start)))
+        × (now (text .exit) ≡ textLeft (now (text .entry)) (readingText (λ _. releaseIn (now (numbers .entry)) store) (readingFrom (now (schedule .entry)) (context .header) start))) ⌝ }
 {
     let mut bytes = [0u8; LONGEST];
-    let left = run_steps(schedule, start, header, steps, numbers, store, &mut bytes);
+    let left = run_steps(schedule, start, context, steps, numbers, store, &mut bytes);
     let end = release(numbers, left);
     let mut last = [0u8; LAST];
     let length = put_end(&mut last, end);
@@ -111,13 +111,14 @@ pub fn list(schedule: &[u8], text: &mut [u8]) -> Written
 {
     let first = validate(schedule);
     match first {
-        Validated::Steps(header, steps) => {
+        Validated::Steps(context, steps) => {
+            let header = context.header;
             let start = first_step(header);
             let mut numbers = fresh(header.n, header.votes);
             list_steps(
                 schedule,
                 start,
-                header,
+                context,
                 steps,
                 &mut numbers,
                 Store::empty(),
@@ -135,12 +136,12 @@ pub fn list_from(tail: &[u8], rest: &[u8], text: &mut [u8]) -> Written
         × (now (text .exit) ≡ listFromLeaves (now (text .entry)) (now (tail .entry)) (now (rest .entry))) ⌝ }
 {
     let start = read_start(tail, Kind::WideHeader);
-    let first = validate_from(start.refusal, start.header, rest);
+    let first = validate_from(start.refusal, start.context, rest);
     match first {
-        Validated::Steps(header, steps) => {
+        Validated::Steps(context, steps) => {
             let mut numbers = start.numbers;
             let store = start.store;
-            list_steps(rest, 0, header, steps, &mut numbers, store, text)
+            list_steps(rest, 0, context, steps, &mut numbers, store, text)
         }
         Validated::Refused(k, place) => list_refusal(k, place, text),
     }

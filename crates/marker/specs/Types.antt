@@ -5,6 +5,7 @@ pub use Rattle.participant.specs.declared.Participant.{Participant}
 pub use Rattle.kind.specs.declared.Kind.{Kind}
 pub use Rattle.kind.specs.declared.Step.{Step}
 pub use Rattle.schedule.specs.declared.Header.{Header}
+pub use Rattle.schedule.specs.declared.Context.{Context}
 pub use Rattle.schedule.specs.declared.Record.{Record}
 pub use Rattle.schedule.specs.declared.reader.Before.{Before}
 pub use Rattle.schedule.specs.declared.reader.Read.{Read}

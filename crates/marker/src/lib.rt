@@ -7,7 +7,7 @@ use passes::Validated;
 use passes::first_step;
 use passes::run_steps;
 use passes::validate;
-use schedule::Header;
+use schedule::Context;
 use start::read_start;
 use start::validate_from;
 use state::FIELDS;
@@ -26,23 +26,24 @@ ghost use Rattle.marker.specs.Run.{readingAnswer, readingLeaves, runAnsw
 fn write_report(
     schedule: &[u8],
     start: usize,
-    header: Header,
+    context: Context,
     steps: usize,
     numbers: &mut [u32; FIELDS],
     store: Store,
     report: &mut [u8],
 ) -> Written
-    requires { ⌜ Ready (now schedule) start header steps (now numbers) store ⌝ }
-    ensures { λ x. ⌜ (x ≡ readingAnswer (length (now (report .entry))) (readingFrom (now (schedule .entry)) header start))
-        × (now (report .exit) ≡ readingLeaves (λ _. releaseIn (now (numbers .entry)) store) (now (report .entry)) (readingFrom (now (schedule .entry)) header start)) ⌝ }
+    requires { ⌜ Ready (now schedule) start context steps (now numbers) store ⌝ }
+    ensures { λ x. ⌜ (x ≡ readingAnswer (length (now (report .entry))) (readingFrom (now (schedule .entry)) (context .header) start))
+        × (now (report .exit) ≡ readingLeaves (λ _. releaseIn (now (numbers .entry)) store) (now (report .entry)) (readingFrom (now (schedule .entry)) (context .header) start)) ⌝ }
 {
+    let header = context.header;
     let kind = header.kind;
     let form = form_of(kind);
     let needed = steps + form.length();
     if report.len() < needed {
         return Written::Refused(TOO_SHORT, needed);
     }
-    let left = run_steps(schedule, start, header, steps, numbers, store, report);
+    let left = run_steps(schedule, start, context, steps, numbers, store, report);
     put_tail(report, steps, numbers, left, form);
     Written::Done(needed)
 }
@@ -55,13 +56,14 @@ pub fn run(schedule: &[u8], report: &mut [u8]) -> Written
 {
     let first = validate(schedule);
     match first {
-        Validated::Steps(header, steps) => {
+        Validated::Steps(context, steps) => {
+            let header = context.header;
             let start = first_step(header);
             let mut numbers = fresh(header.n, header.votes);
             write_report(
                 schedule,
                 start,
-                header,
+                context,
                 steps,
                 &mut numbers,
                 Store::empty(),
@@ -79,12 +81,12 @@ pub fn run_from(tail: &[u8], rest: &[u8], report: &mut [u8]) -> Written
         × (now (report .exit) ≡ runFromLeaves (now (report .entry)) (now (tail .entry)) (now (rest .entry))) ⌝ }
 {
     let start = read_start(tail, Kind::WideHeader);
-    let first = validate_from(start.refusal, start.header, rest);
+    let first = validate_from(start.refusal, start.context, rest);
     match first {
-        Validated::Steps(header, steps) => {
+        Validated::Steps(context, steps) => {
             let mut numbers = start.numbers;
             let store = start.store;
-            write_report(rest, 0, header, steps, &mut numbers, store, report)
+            write_report(rest, 0, context, steps, &mut numbers, store, report)
         }
         Validated::Refused(k, place) => Written::Refused(k, place),
     }

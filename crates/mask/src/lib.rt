@@ -2,7 +2,8 @@
 // Every function takes a place, a participant's number less one.
 ghost use mathlib.Core.Path.{_≡_};
 ghost use Prim.Native.Nat.{_≤_, _<_};
-ghost use Rattle.mask.specs.Mask.{has, insert, remove, full, within};
+ghost use lib.Dec.{leb};
+ghost use Rattle.mask.specs.Mask.{has, insert, remove, full};
 
 // Whether place i is a member. A place that no mask has is none.
 pub fn has(m: u32, i: u32) -> bool
@@ -34,10 +35,9 @@ pub fn full(n: u32) -> u32
     ((1u64 << n) - 1) as u32
 }
 
-// Whether the mask has nobody beyond participant n.
-pub fn within(m: u32, n: u32) -> bool
-    requires { ⌜ n ≤ 32 ⌝ }
-    ensures { λ r. ⌜ r ≡ within n m ⌝ }
+// Whether the mask has nobody beyond `all`, the mask of participants 1 to some n.
+pub fn within(m: u32, all: u32) -> bool
+    ensures { λ r. ⌜ r ≡ leb m all ⌝ }
 {
-    m <= full(n)
+    m <= all
 }

@@ -3,7 +3,7 @@ use mathlib.Core.Path.{_≡_, refl, sym, ap₂, _∙_}
 use mathlib.Core.Bool.{true}
 use Prim.Native.Nat.{ℕ, _≤_}
 use lib.Dec.{lit≤}
-use Rattle.mask.specs.Mask.{within}
+use Rattle.mask.specs.Mask.{full, within}
 use Rattle.mask.proofs.Laws.{none-within}
 use Rattle.number.specs.Numbering.{Inverse2}
 use Rattle.number.proofs.Laws.{and-left, inverse2}
@@ -42,7 +42,7 @@ state-most DoneAbort = lit≤ tt
 state-most Down = lit≤ tt
 
 -- a heard mask in range has nobody beyond n
-pub heard-within : (n own : ℕ) (p : Participant) → Participant.inRange n own p ≡ true → within n (Participant.heardOf p) ≡ true
+pub heard-within : (n own : ℕ) (p : Participant) → Participant.inRange (full n) own p ≡ true → within n (Participant.heardOf p) ≡ true
 heard-within n own Waiting q = none-within n
 heard-within n own VotingYes q = none-within n
 heard-within n own Closing q = none-within n

@@ -5,6 +5,7 @@ use mathlib.Core.Bool.{true, false, cond}
 use mathlib.Core.List.{List, [], _∷_, map}
 use Prim.Native.Nat.{ℕ}
 use lib.Dec.{eqb}
+use Rattle.mask.specs.Mask.{full}
 use Rattle.store.specs.Log.{recordOf}
 use Rattle.message.specs.Message.{sentNumber}
 use Rattle.participant.specs.Types.{Call, Decision, Participant, Transition, NotDue, To}
@@ -30,7 +31,7 @@ leads (To p m) = stateNumber p ∷ heardOf p ∷ sentNumber m ∷ []
 
 -- participant 2 of 4: the answer, by its number, of its own log or, in 4, of log 3
 abbrev pub answer : ℕ → Participant → Transition
-answer k p = onAnswer 4 1 p (cond (eqb (stateNumber p) 4) 2 1) (recordOf k)
+answer k p = onAnswer (full 4) 1 p (cond (eqb (stateNumber p) 4) 2 1) (recordOf k)
 
 -- words of the table: not due; to a state; to 4 with a heard mask; to a state, with a message sent
 
@@ -67,10 +68,10 @@ cases =
     ∷ case (states 1) (answer 3) (none ∷ none ∷ goes 7 ∷ none ∷ goes 5 ∷ goes 7 ∷ none ∷ none ∷ none ∷ none ∷ [])
     -- When nothing is left to hear in 4, it goes to 5 in the same step. With n = 1 that is on entering 4
     ∷ case (states 9) (answer 1) (none ∷ replies 2 3 ∷ terminates 0 ∷ none ∷ goes 5 ∷ none ∷ none ∷ none ∷ none ∷ none ∷ [])
-    ∷ case (ofNumbers 2 0 ∷ []) (λ p. onAnswer 1 0 p 0 (recordOf 1)) (goes 5 ∷ [])
-    ∷ case (ofNumbers 3 0 ∷ []) (onTimeout 1 0) (goes 5 ∷ [])
+    ∷ case (ofNumbers 2 0 ∷ []) (λ p. onAnswer (full 1) 0 p 0 (recordOf 1)) (goes 5 ∷ [])
+    ∷ case (ofNumbers 3 0 ∷ []) (onTimeout (full 1) 0) (goes 5 ∷ [])
     -- Timeout: 0 to 2; 3 to 4; in 4 the heard mask is cleared
-    ∷ case (states 1) (onTimeout 4 1) (goes 2 ∷ none ∷ none ∷ terminates 0 ∷ terminates 0 ∷ none ∷ none ∷ none ∷ none ∷ none ∷ [])
+    ∷ case (states 1) (onTimeout (full 4) 1) (goes 2 ∷ none ∷ none ∷ terminates 0 ∷ terminates 0 ∷ none ∷ none ∷ none ∷ none ∷ none ∷ [])
     -- Crash: to 9, memory lost. Restart: to 2
     ∷ case (states 1) onCrash (goes 9 ∷ goes 9 ∷ goes 9 ∷ goes 9 ∷ goes 9 ∷ goes 9 ∷ goes 9 ∷ goes 9 ∷ goes 9 ∷ none ∷ [])
     ∷ case (states 1) onRestart (none ∷ none ∷ none ∷ none ∷ none ∷ none ∷ none ∷ none ∷ none ∷ goes 2 ∷ [])

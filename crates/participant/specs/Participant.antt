@@ -1,11 +1,11 @@
--- The rules of a participant, in document 01's order. `n` is the number of participants, `own` the participant's place (its number less one),
+-- The rules of a participant, in document 01's order. `all` is the mask of all participants, `own` the participant's place (its number less one),
 -- `j` the place of a log, `h` a heard mask. Assumes nothing.
 use mathlib.Core.Bool.{Bool, true, cond, not, _&&_, _||_}
 use mathlib.Core.List.{[], _∷_}
 use Prim.Native.Nat.{ℕ}
-use lib.Dec.{eqb}
+use lib.Dec.{eqb, leb}
 use Rattle.number.specs.Numbering.{numbered, areNumbers}
-use Rattle.mask.specs.Mask.{has, insert, full, within}
+use Rattle.mask.specs.Mask.{has, insert}
 use Rattle.participant.specs.Types.{LogRecord, None, Yes, Abort, Commit, Call, Message, Sent, Decision, Participant, Waiting, VotingYes, Closing, Uncertain, Terminating, RecordingCommit, RecordingAbort, DoneCommit, DoneAbort, Down, Transition, NotDue, To}
 
 -- States
@@ -45,22 +45,22 @@ isParticipant s h = areNumbers stateNumber heardOf ofNumbers s h
 
 -- a heard mask that goes beyond n, has the own bit or is full is out of range
 abbrev pub heardInRange : ℕ → ℕ → ℕ → Bool
-heardInRange n own h = within n h && (not (has own h) && not (eqb (insert own h) (full n)))
+heardInRange all own h = leb h all && (not (has own h) && not (eqb (insert own h) all))
 
 abbrev pub inRange : ℕ → ℕ → Participant → Bool
-inRange n own Waiting = true
-inRange n own VotingYes = true
-inRange n own Closing = true
-inRange n own Uncertain = true
-inRange n own (Terminating h) = heardInRange n own h
-inRange n own RecordingCommit = true
-inRange n own RecordingAbort = true
-inRange n own DoneCommit = true
-inRange n own DoneAbort = true
-inRange n own Down = true
+inRange all own Waiting = true
+inRange all own VotingYes = true
+inRange all own Closing = true
+inRange all own Uncertain = true
+inRange all own (Terminating h) = heardInRange all own h
+inRange all own RecordingCommit = true
+inRange all own RecordingAbort = true
+inRange all own DoneCommit = true
+inRange all own DoneAbort = true
+inRange all own Down = true
 
 abbrev pub numbersInRange : ℕ → ℕ → ℕ → ℕ → Bool
-numbersInRange n own s h = isParticipant s h && inRange n own (ofNumbers s h)
+numbersInRange all own s h = isParticipant s h && inRange all own (ofNumbers s h)
 
 -- to a state, with nothing sent, or with a message sent
 abbrev pub to : Participant → Transition
@@ -120,7 +120,7 @@ pending own Down j = Call.None
 
 -- When nothing is left to hear in 4, it goes to 5 in the same step. With n = 1 that is on entering 4
 abbrev pub terminating : ℕ → ℕ → ℕ → Participant
-terminating n own h = cond (eqb (insert own h) (full n)) RecordingCommit (Terminating h)
+terminating all own h = cond (eqb (insert own h) all) RecordingCommit (Terminating h)
 
 -- In 1. Answer yes: send reply yes, to 3. Answer abort: send reply abort, to 8
 abbrev pub onVote : LogRecord → Transition
@@ -131,17 +131,17 @@ onVote Commit = NotDue
 
 -- In 2. Answer abort: send reply abort, to 8. Yes: to 4, nothing heard. Commit: to 7
 abbrev pub onClose : ℕ → ℕ → LogRecord → Transition
-onClose n own None = NotDue
-onClose n own Yes = to (terminating n own 0)
-onClose n own Abort = sends Message.ReplyAbort DoneAbort
-onClose n own Commit = to DoneCommit
+onClose all own None = NotDue
+onClose all own Yes = to (terminating all own 0)
+onClose all own Abort = sends Message.ReplyAbort DoneAbort
+onClose all own Commit = to DoneCommit
 
 -- In 4. Abort: to 6. Commit: to 5. Yes: heard
 abbrev pub onHeard : ℕ → ℕ → ℕ → LogRecord → Transition
-onHeard n own h None = NotDue
-onHeard n own h Yes = to (terminating n own h)
-onHeard n own h Abort = to RecordingAbort
-onHeard n own h Commit = to RecordingCommit
+onHeard all own h None = NotDue
+onHeard all own h Yes = to (terminating all own h)
+onHeard all own h Abort = to RecordingAbort
+onHeard all own h Commit = to RecordingCommit
 
 -- In 5 or 6 the answer leads to 7 or 8
 abbrev pub onCommitRecorded : LogRecord → Transition
@@ -158,29 +158,29 @@ onAbortRecorded Commit = NotDue
 
 -- the answer r of log j to the call pending there
 abbrev pub onAnswer : ℕ → ℕ → Participant → ℕ → LogRecord → Transition
-onAnswer n own Waiting j r = NotDue
-onAnswer n own VotingYes j r = onVote r
-onAnswer n own Closing j r = onClose n own r
-onAnswer n own Uncertain j r = NotDue
-onAnswer n own (Terminating h) j r = onHeard n own (insert j h) r
-onAnswer n own RecordingCommit j r = onCommitRecorded r
-onAnswer n own RecordingAbort j r = onAbortRecorded r
-onAnswer n own DoneCommit j r = NotDue
-onAnswer n own DoneAbort j r = NotDue
-onAnswer n own Down j r = NotDue
+onAnswer all own Waiting j r = NotDue
+onAnswer all own VotingYes j r = onVote r
+onAnswer all own Closing j r = onClose all own r
+onAnswer all own Uncertain j r = NotDue
+onAnswer all own (Terminating h) j r = onHeard all own (insert j h) r
+onAnswer all own RecordingCommit j r = onCommitRecorded r
+onAnswer all own RecordingAbort j r = onAbortRecorded r
+onAnswer all own DoneCommit j r = NotDue
+onAnswer all own DoneAbort j r = NotDue
+onAnswer all own Down j r = NotDue
 
 -- Timeout: 0 to 2; 3 to 4; in 4 the heard mask is cleared
 abbrev pub onTimeout : ℕ → ℕ → Participant → Transition
-onTimeout n own Waiting = to Closing
-onTimeout n own VotingYes = NotDue
-onTimeout n own Closing = NotDue
-onTimeout n own Uncertain = to (terminating n own 0)
-onTimeout n own (Terminating h) = to (Terminating 0)
-onTimeout n own RecordingCommit = NotDue
-onTimeout n own RecordingAbort = NotDue
-onTimeout n own DoneCommit = NotDue
-onTimeout n own DoneAbort = NotDue
-onTimeout n own Down = NotDue
+onTimeout all own Waiting = to Closing
+onTimeout all own VotingYes = NotDue
+onTimeout all own Closing = NotDue
+onTimeout all own Uncertain = to (terminating all own 0)
+onTimeout all own (Terminating h) = to (Terminating 0)
+onTimeout all own RecordingCommit = NotDue
+onTimeout all own RecordingAbort = NotDue
+onTimeout all own DoneCommit = NotDue
+onTimeout all own DoneAbort = NotDue
+onTimeout all own Down = NotDue
 
 -- Crash: to 9, memory lost
 abbrev pub onCrash : Participant → Transition

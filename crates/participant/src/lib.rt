@@ -1,11 +1,11 @@
-// The participant. `own` is its place, its number less one, and `j` the place of a log; `n` is the number of participants.
+// The participant. `all` is the mask of all participants, `own` its place, its number less one, and `j` the place of a log.
 use message::Decision;
 use message::Message;
 use message::Sent;
 use store::Call;
 use store::LogRecord;
 ghost use mathlib.Core.Path.{_≡_};
-ghost use Prim.Native.Nat.{_≤_, _<_};
+ghost use Prim.Native.Nat.{_<_};
 ghost use Rattle.participant.specs.Participant.{stateNumber, heardOf, ofNumbers, isParticipant, heardInRange, inRange, numbersInRange, to, onRequest, recording, onDecision, ownCall, otherCall, pending, terminating, onVote, onClose, onHeard, onCommitRecorded, onAbortRecorded, onAnswer, onTimeout, onCrash, onRestart};
 
 // A participant in its state. Terminating, it has the mask of the participants heard.
@@ -36,15 +36,15 @@ pub fn to(p: Participant) -> Transition
 }
 
 // A heard mask has nobody beyond n, not the participant itself, and not all others.
-fn heard_in_range(n: u32, own: u32, h: u32) -> bool
-    requires { ⌜ (own < 32) × (n ≤ 32) ⌝ }
-    ensures { λ b. ⌜ b ≡ heardInRange n own h ⌝ }
+fn heard_in_range(all: u32, own: u32, h: u32) -> bool
+    requires { ⌜ own < 32 ⌝ }
+    ensures { λ b. ⌜ b ≡ heardInRange all own h ⌝ }
 {
-    if mask::within(h, n) {
+    if mask::within(h, all) {
         if mask::has(h, own) {
             false
         } else {
-            mask::insert(h, own) != mask::full(n)
+            mask::insert(h, own) != all
         }
     } else {
         false
@@ -118,17 +118,17 @@ impl Participant {
         }
     }
 
-    // Whether a participant at this place among n can have its heard mask.
-    fn in_range(self, n: u32, own: u32) -> bool
-        requires { ⌜ (own < 32) × (n ≤ 32) ⌝ }
-        ensures { λ b. ⌜ b ≡ inRange n own self ⌝ }
+    // Whether a participant at this place can have its heard mask.
+    fn in_range(self, all: u32, own: u32) -> bool
+        requires { ⌜ own < 32 ⌝ }
+        ensures { λ b. ⌜ b ≡ inRange all own self ⌝ }
     {
         match self {
             Participant::Waiting => true,
             Participant::VotingYes => true,
             Participant::Closing => true,
             Participant::Uncertain => true,
-            Participant::Terminating(h) => heard_in_range(n, own, h),
+            Participant::Terminating(h) => heard_in_range(all, own, h),
             Participant::RecordingCommit => true,
             Participant::RecordingAbort => true,
             Participant::DoneCommit => true,
@@ -137,13 +137,13 @@ impl Participant {
         }
     }
 
-    // Whether a participant at this place among n can have these numbers.
-    pub fn numbers_in_range(n: u32, own: u32, state: u32, heard: u32) -> bool
-        requires { ⌜ (own < 32) × (n ≤ 32) ⌝ }
-        ensures { λ b. ⌜ b ≡ numbersInRange n own state heard ⌝ }
+    // Whether a participant at this place can have these numbers.
+    pub fn numbers_in_range(all: u32, own: u32, state: u32, heard: u32) -> bool
+        requires { ⌜ own < 32 ⌝ }
+        ensures { λ b. ⌜ b ≡ numbersInRange all own state heard ⌝ }
     {
         if Participant::known(state, heard) {
-            Participant::of(state, heard).in_range(n, own)
+            Participant::of(state, heard).in_range(all, own)
         } else {
             false
         }
@@ -200,11 +200,11 @@ impl Participant {
     }
 
     // Terminating with a heard mask, or recording commit where nothing is left to hear.
-    fn terminating(n: u32, own: u32, heard: u32) -> Participant
-        requires { ⌜ (own < 32) × (n ≤ 32) ⌝ }
-        ensures { λ p. ⌜ p ≡ terminating n own heard ⌝ }
+    fn terminating(all: u32, own: u32, heard: u32) -> Participant
+        requires { ⌜ own < 32 ⌝ }
+        ensures { λ p. ⌜ p ≡ terminating all own heard ⌝ }
     {
-        if mask::insert(heard, own) == mask::full(n) {
+        if mask::insert(heard, own) == all {
             Participant::RecordingCommit
         } else {
             Participant::Terminating(heard)
@@ -230,16 +230,16 @@ impl Participant {
     }
 
     // The answer that log j gives to the call pending there.
-    pub fn answer(self, n: u32, own: u32, j: u32, r: LogRecord) -> Transition
-        requires { ⌜ (own < 32) × (n ≤ 32) × (j < 32) ⌝ }
-        ensures { λ t. ⌜ t ≡ onAnswer n own self j r ⌝ }
+    pub fn answer(self, all: u32, own: u32, j: u32, r: LogRecord) -> Transition
+        requires { ⌜ (own < 32) × (j < 32) ⌝ }
+        ensures { λ t. ⌜ t ≡ onAnswer all own self j r ⌝ }
     {
         match self {
             Participant::Waiting => Transition::NotDue,
             Participant::VotingYes => vote_answered(r),
-            Participant::Closing => close_answered(n, own, r),
+            Participant::Closing => close_answered(all, own, r),
             Participant::Uncertain => Transition::NotDue,
-            Participant::Terminating(h) => heard_answered(n, own, mask::insert(h, j), r),
+            Participant::Terminating(h) => heard_answered(all, own, mask::insert(h, j), r),
             Participant::RecordingCommit => commit_answered(r),
             Participant::RecordingAbort => abort_answered(r),
             Participant::DoneCommit => Transition::NotDue,
@@ -248,15 +248,15 @@ impl Participant {
         }
     }
 
-    pub fn timeout(self, n: u32, own: u32) -> Transition
-        requires { ⌜ (own < 32) × (n ≤ 32) ⌝ }
-        ensures { λ t. ⌜ t ≡ onTimeout n own self ⌝ }
+    pub fn timeout(self, all: u32, own: u32) -> Transition
+        requires { ⌜ own < 32 ⌝ }
+        ensures { λ t. ⌜ t ≡ onTimeout all own self ⌝ }
     {
         match self {
             Participant::Waiting => to(Participant::Closing),
             Participant::VotingYes => Transition::NotDue,
             Participant::Closing => Transition::NotDue,
-            Participant::Uncertain => to(Participant::terminating(n, own, 0)),
+            Participant::Uncertain => to(Participant::terminating(all, own, 0)),
             Participant::Terminating(_) => to(Participant::Terminating(0)),
             Participant::RecordingCommit => Transition::NotDue,
             Participant::RecordingAbort => Transition::NotDue,
@@ -339,13 +339,13 @@ fn vote_answered(r: LogRecord) -> Transition
 }
 
 // The answer to LogOnce(abort), in closing.
-fn close_answered(n: u32, own: u32, r: LogRecord) -> Transition
-    requires { ⌜ (own < 32) × (n ≤ 32) ⌝ }
-    ensures { λ t. ⌜ t ≡ onClose n own r ⌝ }
+fn close_answered(all: u32, own: u32, r: LogRecord) -> Transition
+    requires { ⌜ own < 32 ⌝ }
+    ensures { λ t. ⌜ t ≡ onClose all own r ⌝ }
 {
     match r {
         LogRecord::None => Transition::NotDue,
-        LogRecord::Yes => to(Participant::terminating(n, own, 0)),
+        LogRecord::Yes => to(Participant::terminating(all, own, 0)),
         LogRecord::Abort => Transition::To(
             Participant::DoneAbort,
             Sent::Sends(Message::ReplyAbort),
@@ -355,13 +355,13 @@ fn close_answered(n: u32, own: u32, r: LogRecord) -> Transition
 }
 
 // The answer to LogOnce(abort) on another log, in terminating; `heard` has that log too.
-fn heard_answered(n: u32, own: u32, heard: u32, r: LogRecord) -> Transition
-    requires { ⌜ (own < 32) × (n ≤ 32) ⌝ }
-    ensures { λ t. ⌜ t ≡ onHeard n own heard r ⌝ }
+fn heard_answered(all: u32, own: u32, heard: u32, r: LogRecord) -> Transition
+    requires { ⌜ own < 32 ⌝ }
+    ensures { λ t. ⌜ t ≡ onHeard all own heard r ⌝ }
 {
     match r {
         LogRecord::None => Transition::NotDue,
-        LogRecord::Yes => to(Participant::terminating(n, own, heard)),
+        LogRecord::Yes => to(Participant::terminating(all, own, heard)),
         LogRecord::Abort => to(Participant::RecordingAbort),
         LogRecord::Commit => to(Participant::RecordingCommit),
     }

@@ -19,7 +19,7 @@ use Rattle.rules.proofs.Room.{after-room}
 use Rattle.state.specs.Fields.{fields, HasPlaces, nIn, messageIn, siteIn, countIn, releaseIn}
 use Rattle.state.proofs.Parts.{count-in}
 use Rattle.state.proofs.Filling.{fresh-places, release-in}
-use Rattle.passes.specs.Types.{Step, Header, Release, Store, Validated}
+use Rattle.passes.specs.Types.{Step, Header, Context, Release, Store, Validated}
 use Rattle.passes.specs.Pass.{validated, readingFrom, stepsOf, freshOf, Ready, Leaves}
 use Rattle.passes.proofs.Passed.{passed, stand}
 
@@ -40,9 +40,9 @@ pub in-places : (l : List ℕ) (store : Store) → HasPlaces (releaseIn l store)
 in-places l store =
     record { sites = length-tabulate places (siteIn l); messages = length-tabulate types (messageIn l); calls = length-tabulate (suc places) (countIn l) }
 
-module _ {s : List ℕ} {start : ℕ} {h : Header} {count : ℕ} {l : List ℕ} {store : Store} (g : Ready s start h count l store) where
+module _ {s : List ℕ} {start : ℕ} {c : Context} {count : ℕ} {l : List ℕ} {store : Store} (g : Ready s start c count l store) where
   abbrev steps : List Step
-  steps = stepsOf (readingFrom s h start)
+  steps = stepsOf (readingFrom s (c .header) start)
 
   abbrev left : Release
   left = after (releaseIn l store) steps
@@ -59,7 +59,7 @@ module _ {s : List ℕ} {start : ℕ} {h : Header} {count : ℕ} {l : List ℕ} 
           omega (
             arith,
             calls-most (releaseIn l store) steps p,
-            stand s start h count (g .steps) .bytes,
+            stand s start c count (g .steps) .bytes,
             getD-tabulate (suc places) (countIn l) p 0 q,
             g .countable p q,
           )
@@ -83,19 +83,6 @@ module _ (h : Header) where
   unfolding fields flatten
   same-n = refl
 
-  pub begun : (s : List ℕ) (count : ℕ) → validated (readSchedule s) ≡ Validated.Steps h count
-      → Ready s (recordLength (headerRecord h)) h count (fields (freshOf h)) (freshOf h .store)
-  begun s count c =
-      let x = passed s h count c in
-      record {
-        within = x .begins;
-        header = x .header;
-        steps = ap validated (x .after-header) ∙ c;
-        numbers = ap fields (sym fresh-back);
-        same-n = same-n;
-        countable = λ p g. omega (arith, ap (λ (r : Release). getD (r .calls) p 0) fresh-back, count-in (freshOf h) (fresh-places (h .n) (h .votes)) p g, no-calls p, x .short);
-      }
-
   -- the release after some steps has its places, and no count is more than a third of their bytes
 
   pub run-places : (steps : List Step) → HasPlaces (after (freshOf h) steps)
@@ -103,3 +90,18 @@ module _ (h : Header) where
 
   pub run-calls : (steps : List Step) (p : ℕ) → 3 * getD (after (freshOf h) steps .calls) p 0 ≤ length (stepsBytes steps)
   run-calls steps p = omega (arith, calls-most (freshOf h) steps p, no-calls p)
+
+-- the second pass starts from it, with what the first pass handed on
+pub begun : (c : Context) (s : List ℕ) (count : ℕ) → validated (readSchedule s) ≡ Validated.Steps c count
+    → Ready s (recordLength (headerRecord (c .header))) c count (fields (freshOf (c .header))) (freshOf (c .header) .store)
+begun c s count e =
+    let h : Header = c .header in
+    let x = passed s c count e in
+    record {
+      within = x .begins;
+      header = x .header;
+      steps = ap validated (x .after-header) ∙ e;
+      numbers = ap fields (sym (fresh-back h));
+      same-n = same-n h;
+      countable = λ p g. omega (arith, ap (λ (r : Release). getD (r .calls) p 0) (fresh-back h), count-in (freshOf h) (fresh-places (h .n) (h .votes)) p g, no-calls h p, x .short);
+    }

@@ -9,11 +9,13 @@ use native.Mathlib.Numerals.{add-one}
 use lib.ListN.{length, getD, set, drop, length-set}
 use lib.Seq.{sets}
 use Rattle.number.proofs.Table.{getD-tabulate}
+use Rattle.mask.specs.Mask.{full}
 use Rattle.store.specs.Log.{places}
 use Rattle.kind.specs.Step.{inRange}
 use Rattle.schedule.specs.Record.{recordStep, headerInRange}
 use Rattle.schedule.specs.Reader.{readerAnswers, stepAt, lengthAt}
 use Rattle.schedule.specs.Schedule.{withStep}
+use Rattle.kind.proofs.Numbers.{more-steps}
 use Rattle.schedule.proofs.Laws.{header-size}
 use Rattle.schedule.proofs.Records.{read-untested}
 use Rattle.rules.specs.Report.{reportByte, stepByte}
@@ -26,38 +28,41 @@ use Rattle.call.specs.Steps.{Steps, CanCount}
 use Rattle.rules.proofs.Causes.{cause}
 use Rattle.rules.proofs.Counts.{calls-by-bytes}
 use Rattle.rules.proofs.Room.{caused-room}
-use Rattle.passes.specs.Types.{Step, Header, Record, Before, Read, Validated, Store, Release, Outcome}
+use Rattle.passes.specs.Types.{Step, Header, Context, Record, Before, Read, Validated, Store, Release, Outcome}
 use Rattle.passes.specs.Pass.{readingFrom, validatedAfter, stepsOf, stepBytes, Ready, Leaves}
+use Rattle.passes.proofs.Passed.{counted-mask}
 use Rattle.passes.proofs.Begun.{in-places}
 use Rattle.passes.proofs.Reading.{First, read-first, read-refused, none-left, count-more, one-more, step-first}
 
 -- before step i, whose record begins at `at`, from a release r₀ on: `l` are the numbers of the release then, beside its store. Three times a count
 -- and the bytes left stay below three times the limit, since a counted call has a record of three bytes
-pub record Going (s : List ℕ) (h : Header) (start count : ℕ) (r₀ : Release) (out₀ out : List ℕ) (at i : ℕ) (l : List ℕ) (store : Store) : Type 0 where
+pub record Going (s : List ℕ) (c : Context) (start count : ℕ) (r₀ : Release) (out₀ out : List ℕ) (at i : ℕ) (l : List ℕ) (store : Store) : Type 0 where
   pub within : at ≤ length s
   pub few : i ≤ at
   pub same : length out ≡ length out₀
   pub room : count ≤ length out₀
-  pub header : headerInRange h ≡ true
+  pub header : headerInRange (c .header) ≡ true
+  pub mask : c .all ≡ full (c .header .n)
   pub release : Release
   pub numbers : l ≡ fields release
   pub stored : store ≡ release .store
   pub has-places : HasPlaces release
-  pub same-n : release .n ≡ h .n
+  pub same-n : release .n ≡ c .header .n
   pub calls : (p : ℕ) → p < suc places → 3 * getD (release .calls) p 0 + (length s - at) < 3 * countLimit
-  pub left : validatedAfter i (readingFrom s h at) ≡ Validated.Steps h count
-  pub ends : after release (stepsOf (readingFrom s h at)) ≡ after r₀ (stepsOf (readingFrom s h start))
-  pub report : sets out i (stepBytes release (stepsOf (readingFrom s h at))) ≡ sets out₀ 0 (stepBytes r₀ (stepsOf (readingFrom s h start)))
+  pub left : validatedAfter i (readingFrom s (c .header) at) ≡ Validated.Steps c count
+  pub ends : after release (stepsOf (readingFrom s (c .header) at)) ≡ after r₀ (stepsOf (readingFrom s (c .header) start))
+  pub report : sets out i (stepBytes release (stepsOf (readingFrom s (c .header) at))) ≡ sets out₀ 0 (stepBytes r₀ (stepsOf (readingFrom s (c .header) start)))
 
-pub set-out : (s : List ℕ) (start : ℕ) (h : Header) (count : ℕ) (out l : List ℕ) (store : Store) → Ready s start h count l store
-    → count ≤ length out → Going s h start count (releaseIn l store) out out start 0 l store
-set-out s start h count out l store g enough =
+pub set-out : (s : List ℕ) (start : ℕ) (c : Context) (count : ℕ) (out l : List ℕ) (store : Store) → Ready s start c count l store
+    → count ≤ length out → Going s c start count (releaseIn l store) out out start 0 l store
+set-out s start c count out l store g enough =
     record {
       within = g .within;
       few = omega arith;
       same = refl;
       room = enough;
       header = g .header;
+      mask = counted-mask (readingFrom s (c .header) start) c count (g .steps) (g .header);
       release = releaseIn l store;
       numbers = g .numbers;
       stored = refl;
@@ -69,10 +74,13 @@ set-out s start h count out l store g enough =
       report = refl;
     }
 
-module _ {s : List ℕ} {h : Header} {start count : ℕ} {r₀ : Release} {out₀ out : List ℕ} {at i : ℕ} {l : List ℕ} {store : Store} (g : Going s h start count r₀ out₀ out at i l store) (some : at < length s) where
-  -- a step may be taken: the release has room for n, and every count has room for one call more
-  pub small : h .n ≤ places
-  small = omega (arith, header-size h (g .header) .1)
+module _ {s : List ℕ} {c : Context} {start count : ℕ} {r₀ : Release} {out₀ out : List ℕ} {at i : ℕ} {l : List ℕ} {store : Store} (g : Going s c start count r₀ out₀ out at i l store) (some : at < length s) where
+  abbrev h : Header
+  h = c .header
+
+  -- a step may be taken: the mask is that of the release's n, and every count has room for one call more
+  same-mask : full (g .release .n) ≡ c .all
+  same-mask = ap full (g .same-n) ∙ sym (g .mask)
 
   pub countable : CanCount l
   countable p q = rw (g .numbers, count-in (g .release) (g .has-places) p q) (omega (arith, g .calls p q))
@@ -81,27 +89,27 @@ module _ {s : List ℕ} {h : Header} {start count : ℕ} {r₀ : Release} {out�
     first : First s h at x size
     first = read-first s h at some x size e
 
-    pub ranged : inRange (h .n) (recordStep x) ≡ true
-    ranged = first .ranged
+    pub ranged : inRange places (recordStep x) ≡ true
+    ranged = more-steps (h .n) places (header-size h (g .header) .1) (recordStep x) (first .ranged)
 
     pub fits : at + size ≤ length s
     fits = first .within
 
-    here : validatedAfter i (withStep (recordStep x) (readingFrom s h (at + size))) ≡ Validated.Steps h count
+    here : validatedAfter i (withStep (recordStep x) (readingFrom s h (at + size))) ≡ Validated.Steps c count
     here = ap (validatedAfter i) (sym (first .first)) ∙ g .left
 
     pub has-room : i < length out
-    has-room = omega (arith, one-more i count h (recordStep x) (readingFrom s h (at + size)) here, g .room, g .same)
+    has-room = omega (arith, one-more i count c (recordStep x) (readingFrom s h (at + size)) here, g .room, g .same)
 
     steps : stepsOf (readingFrom s h at) ≡ recordStep x ∷ stepsOf (readingFrom s h (at + size))
-    steps = ap stepsOf (first .first) ∙ step-first i count h (recordStep x) (readingFrom s h (at + size)) here
+    steps = ap stepsOf (first .first) ∙ step-first i count c (recordStep x) (readingFrom s h (at + size)) here
 
     -- one turn
-    pub go-on : (o : Outcome) (b : Bool) (k : List ℕ) (t : Store) → Steps (h .n) (λ r. step r (recordStep x)) l store o b k t
-        → Going s h start count r₀ out₀ (set out i (reportByte o b)) (at + size) (i + 1) k t
+    pub go-on : (o : Outcome) (b : Bool) (k : List ℕ) (t : Store) → Steps (c .all) (λ r. step r (recordStep x)) l store o b k t
+        → Going s c start count r₀ out₀ (set out i (reportByte o b)) (at + size) (i + 1) k t
     go-on o b k t leads =
         let r : Release = g .release in
-        let led = leads r (g .has-places) (g .same-n) (g .numbers) (g .stored) in
+        let led = leads r (g .has-places) same-mask (g .numbers) (g .stored) in
         let next : Release = step r (recordStep x) .next in
         let byte : ℕ = stepByte (step r (recordStep x)) in
         let rest : List Step = stepsOf (readingFrom s h (at + size)) in
@@ -111,6 +119,7 @@ module _ {s : List ℕ} {h : Header} {start count : ℕ} {r₀ : Release} {out�
           same = length-set out i (reportByte o b) ∙ g .same;
           room = g .room;
           header = g .header;
+          mask = g .mask;
           release = next;
           numbers = led .1;
           stored = led .2;
@@ -150,12 +159,12 @@ module _ {s : List ℕ} {h : Header} {start count : ℕ} {r₀ : Release} {out�
       go (Read.Refused k p) e = absurd (no-refusal k p e)
 
 -- at the end
-pub arrived : {s : List ℕ} {h : Header} {start count : ℕ} {r₀ : Release} {out₀ out : List ℕ} {at i : ℕ} {l : List ℕ} {store : Store} → Going s h start count r₀ out₀ out at i l store
-    → length s ≤ at → Leaves r₀ (stepsOf (readingFrom s h start)) out₀ store l out
-arrived {s} {h} {start} {count} {r₀} {out₀} {out} {at} {i} {l} {store} g end =
-    let e = none-left s h at end in
+pub arrived : {s : List ℕ} {c : Context} {start count : ℕ} {r₀ : Release} {out₀ out : List ℕ} {at i : ℕ} {l : List ℕ} {store : Store} → Going s c start count r₀ out₀ out at i l store
+    → length s ≤ at → Leaves r₀ (stepsOf (readingFrom s (c .header) start)) out₀ store l out
+arrived {s} {c} {start} {count} {r₀} {out₀} {out} {at} {i} {l} {store} g end =
+    let e = none-left s (c .header) at end in
     let r : Release = g .release in
-    let ends : r ≡ after r₀ (stepsOf (readingFrom s h start)) = sym (ap (λ x. after r (stepsOf x)) e) ∙ g .ends in
+    let ends : r ≡ after r₀ (stepsOf (readingFrom s (c .header) start)) = sym (ap (λ x. after r (stepsOf x)) e) ∙ g .ends in
     record {
       store = g .stored ∙ ap (λ (t : Release). t .store) ends;
       numbers = g .numbers ∙ ap fields ends;

@@ -10,20 +10,16 @@ use Rattle.kind.specs.Kind.{bodyLength}
 use Rattle.kind.specs.Step.{stepKind, inRange}
 use Rattle.schedule.specs.Record.{recordStep, recordLength}
 use Rattle.schedule.specs.Reader.{readerAnswers}
+use Rattle.schedule.specs.Context.{contextOf}
 use Rattle.schedule.specs.Schedule.{Reading, Accepted, Refused, withStep, stepsFrom}
 use Rattle.schedule.proofs.Records.{read-yielded, record-step}
 use Rattle.schedule.proofs.Reading.{read-on, refused-first, refused-at-first}
-use Rattle.passes.specs.Types.{Step, Header, Record, Before, Read, Validated}
+use Rattle.passes.specs.Types.{Step, Header, Context, Record, Before, Read, Validated}
 use Rattle.passes.specs.Pass.{readingFrom, validatedAfter, stepsOf}
 
 -- a part to the end is what is left of the whole
 pub tail-part : (s : List ℕ) (at : ℕ) → take (length s - at) (drop at s) ≡ drop at s
 tail-part s at = take-all (length s - at) (drop at s) (simp length-drop (omega arith))
-
--- a header that is read stands within the schedule
-pub header-read : (s : List ℕ) (r : Record) (l : ℕ) → readerAnswers s Before.Nothing ≡ Read.Record r l → l ≤ length s
-header-read s r l e =
-    read-yielded s Before.Nothing r l e .fits
 
 -- a record that is read: it stands within the schedule, its step is in range, and it comes first
 pub record First (s : List ℕ) (h : Header) (at : ℕ) (r : Record) (l : ℕ) : Type 0 where
@@ -59,20 +55,20 @@ none-left s h at end = ap (λ b. stepsFrom h at b 0) (drop-of-length-le s end)
 
 -- one step more is counted
 pub count-more : (m : ℕ) (s : Step) (x : Reading) → validatedAfter m (withStep s x) ≡ validatedAfter (m + 1) x
-count-more m s (Accepted h steps) = ap (Validated.Steps h) (omega arith)
+count-more m s (Accepted h steps) = ap (Validated.Steps (contextOf h)) (omega arith)
 count-more m s (Refused k p) = refl
 
 -- What a count tells
 
-pub count-same : (h g : Header) (a b : ℕ) → Validated.Steps h a ≡ Validated.Steps g b → a ≡ b
-count-same h g a b e = cc
+pub count-same : (c d : Context) (a b : ℕ) → Validated.Steps c a ≡ Validated.Steps d b → a ≡ b
+count-same c d a b e = cc
 
 -- where a first step is counted, the others are steps, and it is below the count
-pub one-more : (i count : ℕ) (g : Header) (s : Step) (x : Reading) → validatedAfter i (withStep s x) ≡ Validated.Steps g count → i < count
-one-more i count g s (Accepted h steps) c = omega (arith, count-same h g (i + suc (length steps)) count c)
-one-more i count g s (Refused k p) c = let z : _≡_ {A = ℕ} 0 1 = cc in absurd (omega arith)
+pub one-more : (i count : ℕ) (d : Context) (s : Step) (x : Reading) → validatedAfter i (withStep s x) ≡ Validated.Steps d count → i < count
+one-more i count d s (Accepted h steps) c = omega (arith, count-same (contextOf h) d (i + suc (length steps)) count c)
+one-more i count d s (Refused k p) c = let z : _≡_ {A = ℕ} 0 1 = cc in absurd (omega arith)
 
-pub step-first : (i count : ℕ) (g : Header) (s : Step) (x : Reading) → validatedAfter i (withStep s x) ≡ Validated.Steps g count
+pub step-first : (i count : ℕ) (d : Context) (s : Step) (x : Reading) → validatedAfter i (withStep s x) ≡ Validated.Steps d count
     → stepsOf (withStep s x) ≡ s ∷ stepsOf x
-step-first i count g s (Accepted h steps) c = refl
-step-first i count g s (Refused k p) c = let z : _≡_ {A = ℕ} 0 1 = cc in absurd (omega arith)
+step-first i count d s (Accepted h steps) c = refl
+step-first i count d s (Refused k p) c = let z : _≡_ {A = ℕ} 0 1 = cc in absurd (omega arith)

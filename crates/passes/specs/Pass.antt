@@ -1,23 +1,26 @@
--- The two passes over a schedule. The first answers its header and how many steps there are, or the first refusal from the left; the second
--- gives a byte a step and the release that the steps leave. Assumes nothing.
+-- The two passes over a schedule. The first answers its header, with the mask of all participants, and how many steps there are, or the first refusal
+-- from the left; the second gives a byte a step and the release that the steps leave. Assumes nothing.
 use mathlib.Core.Path.{_≡_}
 use mathlib.Core.Bool.{true}
 use mathlib.Core.List.{List, [], map}
 use Prim.Native.Nat.{ℕ, suc, _+_, _-_, _*_, _≤_, _<_}
 use lib.ListN.{length, drop}
 use lib.Seq.{sets}
+use Rattle.mask.specs.Mask.{full}
 use Rattle.store.specs.Log.{places}
 use Rattle.schedule.specs.Record.{headerInRange}
-use Rattle.schedule.specs.Schedule.{Reading, Accepted, Refused, stepsFrom}
+use Rattle.schedule.specs.Reader.{readerAnswers}
+use Rattle.schedule.specs.Context.{contextOf, firstOf, readWith}
+use Rattle.schedule.specs.Schedule.{Reading, Accepted, Refused, stepsFrom, readSchedule}
 use Rattle.rules.specs.State.{fresh}
 use Rattle.rules.specs.Report.{stepByte}
 use Rattle.rules.specs.Run.{reports, after, countLimit}
 use Rattle.state.specs.Fields.{fields, nIn, countIn, releaseIn}
-use Rattle.passes.specs.Types.{Step, Header, Store, Release, Validated}
+use Rattle.passes.specs.Types.{Step, Header, Context, Before, First, Store, Release, Validated}
 
 -- the first pass, beside the steps counted before
 abbrev pub validatedAfter : ℕ → Reading → Validated
-validatedAfter before (Accepted h steps) = Validated.Steps h (before + length steps)
+validatedAfter before (Accepted h steps) = Validated.Steps (contextOf h) (before + length steps)
 validatedAfter before (Refused k place) = Validated.Refused k place
 
 abbrev pub validated : Reading → Validated
@@ -39,14 +42,25 @@ freshOf h = fresh places (h .n) (h .votes)
 abbrev pub stepBytes : Release → List Step → List ℕ
 stepBytes r steps = map stepByte (reports r steps)
 
--- What the second pass starts from: `count` steps from a place on, and numbers and a store that represent a release with the header's n. A counted
--- call has a record of three bytes: every count has room for a call in each three of the bytes left
-pub record Ready (s : List ℕ) (start : ℕ) (h : Header) (count : ℕ) (l : List ℕ) (store : Store) : Type 0 where
+-- Request 2026-05: what the first pass hands on, to the reading of each record and to each step. The mask is that of the header's n, and a record at any
+-- place is read with it as the reader reads it under that header
+pub record HandsOn (bytes : List ℕ) (c : Context) : Type 0 where
+  pub mask : c .all ≡ full (c .header .n)
+  pub reads : (place : ℕ) → readWith (drop place bytes) c ≡ readerAnswers (drop place bytes) (Before.Header (c .header))
+
+-- So it is from the header of a schedule on, also where a later record is refused; and in the answer of the first pass. Proved in proofs/Passed.antt
+pub record RunMask : Type 0 where
+  pub header : (bytes : List ℕ) (c : Context) → firstOf (readerAnswers bytes Before.Nothing) ≡ First.Header c → HandsOn bytes c
+  pub answer : (bytes : List ℕ) (c : Context) (count : ℕ) → validated (readSchedule bytes) ≡ Validated.Steps c count → HandsOn bytes c
+
+-- What the second pass starts from: `count` steps from a place on, with the mask that the first pass handed on, and numbers and a store that
+-- represent a release with the header's n. A counted call has a record of three bytes: every count has room for a call in each three of the bytes left
+pub record Ready (s : List ℕ) (start : ℕ) (c : Context) (count : ℕ) (l : List ℕ) (store : Store) : Type 0 where
   pub within : start ≤ length s
-  pub header : headerInRange h ≡ true
-  pub steps : validated (readingFrom s h start) ≡ Validated.Steps h count
+  pub header : headerInRange (c .header) ≡ true
+  pub steps : validated (readingFrom s (c .header) start) ≡ Validated.Steps c count
   pub numbers : l ≡ fields (releaseIn l store)
-  pub same-n : nIn l ≡ h .n
+  pub same-n : nIn l ≡ c .header .n
   pub countable : (p : ℕ) → p < suc places → 3 * countIn l p + (length s - start) < 3 * countLimit
 
 -- What it leaves of a release and a report: the store and the numbers of the release after the steps, and a byte for each step in the report

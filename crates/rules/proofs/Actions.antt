@@ -161,12 +161,12 @@ coordinator-after-call : (q j : ℕ) (l : Logged) (c : Coordinator) (x : Sent) (
 coordinator-after-call q j l c x r t g = record { state = g .state; sent = g .sent; nobody-else = g .nobody-else; others = g .others; nothing = g .nothing }
 
 answer-goes : (r : Release) (i j : ℕ) (l : Logged) (p : Participant) (x : Sent) → perform (Participant.pending i (participantOf r i) j) (logOf r j) ≡ Performed.Done l
-    → Participant.onAnswer (r .n) i (participantOf r i) j (l .answer) ≡ To p x → ParticipantGoesTo i p x r (participantCalls true i j r .next)
+    → Participant.onAnswer (full (r .n)) i (participantOf r i) j (l .answer) ≡ To p x → ParticipantGoesTo i p x r (participantCalls true i j r .next)
 unfolding participantCalls
 answer-goes r i j l p x d a = rw d (rw a (participant-after-call i (suc i) j l p x r _ (participant-goes-to i p x (called (suc i) j (l .log) r))))
 
 coordinator-answer-goes : (r : Release) (j : ℕ) (l : Logged) (c : Coordinator) (x : Sent) → perform (Coordinator.pending (r .coordinator) j) (logOf r j) ≡ Performed.Done l
-    → Coordinator.onAnswer (r .n) (r .coordinator) j (l .answer) ≡ CoordinatorTransition.To c x → CoordinatorGoesTo c x r (coordinatorCalls true j r .next)
+    → Coordinator.onAnswer (full (r .n)) (r .coordinator) j (l .answer) ≡ CoordinatorTransition.To c x → CoordinatorGoesTo c x r (coordinatorCalls true j r .next)
 unfolding coordinatorCalls
 coordinator-answer-goes r j l c x d a = rw d (rw a (coordinator-after-call 0 j l c x r _ (coordinator-goes-to c x (called 0 j (l .log) r))))
 
@@ -175,13 +175,13 @@ go-as-ruled r =
     record {
       start = λ c x q. coordinator-goes (Coordinator.onStart (r .coordinator)) c x r q;
       request = λ i h. rw h (participant-goes-to i _ Sent.Nothing r);
-      reply-yes = λ i c x h q. rw h (coordinator-goes (Coordinator.onReplyYes (r .n) i (r .coordinator)) c x r q);
+      reply-yes = λ i c x h q. rw h (coordinator-goes (Coordinator.onReplyYes (full (r .n)) i (r .coordinator)) c x r q);
       reply-abort = λ i c x h q. rw h (coordinator-goes (Coordinator.onReplyAbort (r .coordinator)) c x r q);
       commit = λ i h. rw h (participant-goes-to i _ Sent.Nothing r);
       abort = λ i h. rw h (participant-goes-to i _ Sent.Nothing r);
       answer = answer-goes r;
       coordinator-answer = coordinator-answer-goes r;
-      timeout = λ i p x q. goes-to i (Participant.onTimeout (r .n) i (participantOf r i)) p x r q;
+      timeout = λ i p x q. goes-to i (Participant.onTimeout (full (r .n)) i (participantOf r i)) p x r q;
       coordinator-timeout = λ c x q. coordinator-goes (Coordinator.onTimeout (r .coordinator)) c x r q;
     }
 
@@ -260,8 +260,8 @@ module _ (r : Release) (m : Message) (i : ℕ) (h : inFlight r m i ≡ true) whe
 receive-like : (r : Release) (m : Message) (i : ℕ) (h : inFlight r m i ≡ true) → CopyLike r m i h (receive m i)
 receive-like r Message.Request i h = participant-like r Message.Request i h _
 receive-like r Message.ReplyYes i h =
-    replyYes-cases (λ c t. CopyLike r Message.ReplyYes i h (coordinatorGoes t)) (r .n) i
-    (λ g. enters-like r Message.ReplyYes i h (Coordinator.unlessFull (r .n) (insert i g) (Coordinator.Waiting (insert i g))) (λ e. omega (arith, ap messagePlace e)) (λ e. omega (arith, ap messagePlace e)))
+    replyYes-cases (λ c t. CopyLike r Message.ReplyYes i h (coordinatorGoes t)) (full (r .n)) i
+    (λ g. enters-like r Message.ReplyYes i h (Coordinator.unlessFull (full (r .n)) (insert i g) (Coordinator.Waiting (insert i g))) (λ e. omega (arith, ap messagePlace e)) (λ e. omega (arith, ap messagePlace e)))
     (λ c. coordinator-like r Message.ReplyYes i h c) (r .coordinator)
 receive-like r Message.ReplyAbort i h =
     replyAbort-cases (λ c t. CopyLike r Message.ReplyAbort i h (coordinatorGoes t))
@@ -287,7 +287,7 @@ module _ (P : (Bool → Report) → Type 0) (r : Release) where
 
       performed : (y : Performed) → perform (Participant.pending i (participantOf r i) j) (logOf r j) ≡ y → P (λ heard. participantPerformed heard i j y r)
       performed Performed.Refused q = refused
-      performed (Performed.Done x) q = answered x (Participant.onAnswer (r .n) i (participantOf r i) j (x .answer)) q
+      performed (Performed.Done x) q = answered x (Participant.onAnswer (full (r .n)) i (participantOf r i) j (x .answer)) q
 
   pub coordinator-calls : (j : ℕ) → P (λ heard. coordinatorPerformed heard j Performed.Refused r) → ((x : Logged) → P (λ heard. coordinatorAnswered heard j x CoordinatorTransition.NotDue r))
       → ((x : Logged) (c : Coordinator) (s : Sent) → perform (Coordinator.pending (r .coordinator) j) (logOf r j) ≡ Performed.Done x → P (λ heard. coordinatorAnswered heard j x (CoordinatorTransition.To c s) r))
@@ -301,7 +301,7 @@ module _ (P : (Bool → Report) → Type 0) (r : Release) where
 
       performed : (y : Performed) → perform (Coordinator.pending (r .coordinator) j) (logOf r j) ≡ y → P (λ heard. coordinatorPerformed heard j y r)
       performed Performed.Refused q = refused
-      performed (Performed.Done x) q = answered x (Coordinator.onAnswer (r .n) (r .coordinator) j (x .answer)) q
+      performed (Performed.Done x) q = answered x (Coordinator.onAnswer (full (r .n)) (r .coordinator) j (x .answer)) q
 
 -- Store calls
 
@@ -406,9 +406,9 @@ restarts-as-written r =
 pub receive-moves : (m : Message) (i : ℕ) (r : Release) → moves (receive m i r .outcome) ≡ true
 receive-moves Message.Request i r = participant-due i _ Sent.Nothing r
 receive-moves Message.ReplyYes i r =
-    coordinator-goes-moves (Coordinator.onReplyYes (r .n) i (r .coordinator)) r
-    ∙ replyYes-cases (λ c t. coordinatorLeads t ≡ true) (r .n) i
-    (λ h. enters-leads (Coordinator.unlessFull (r .n) (insert i h) (Coordinator.Waiting (insert i h)))) (λ c. refl) (r .coordinator)
+    coordinator-goes-moves (Coordinator.onReplyYes (full (r .n)) i (r .coordinator)) r
+    ∙ replyYes-cases (λ c t. coordinatorLeads t ≡ true) (full (r .n)) i
+    (λ h. enters-leads (Coordinator.unlessFull (full (r .n)) (insert i h) (Coordinator.Waiting (insert i h)))) (λ c. refl) (r .coordinator)
 receive-moves Message.ReplyAbort i r =
     coordinator-goes-moves (Coordinator.onReplyAbort (r .coordinator)) r ∙ replyAbort-cases (λ c t. coordinatorLeads t ≡ true) (λ h. refl) (λ c. refl) (r .coordinator)
 receive-moves Message.Commit i r = participant-due i _ Sent.Nothing r
@@ -456,7 +456,7 @@ not-due-stays r (Lose m (suc i)) = flight-stays (inFlight r m i) _ r refl
 not-due-stays r (Step.Call p q) = call-stays r p q .0
 not-due-stays r (Step.CallLost p q) = call-stays r p q .1
 not-due-stays r (Timeout zero) = coordinator-stays (Coordinator.onTimeout (r .coordinator)) r
-not-due-stays r (Timeout (suc i)) = goes-stays i (Participant.onTimeout (r .n) i (participantOf r i)) r
+not-due-stays r (Timeout (suc i)) = goes-stays i (Participant.onTimeout (full (r .n)) i (participantOf r i)) r
 not-due-stays r (Crash zero) = coordinator-stays (Coordinator.onCrash (r .coordinator)) r
 not-due-stays r (Crash (suc i)) = goes-stays i (Participant.onCrash (participantOf r i)) r
 not-due-stays r (Restart zero) = coordinator-stays (Coordinator.onRestart (r .coordinator)) r

@@ -7,6 +7,7 @@ use native.Mathlib.Omega.{arith}
 use lib.Dec.{eqb, lit≤}
 use Rattle.number.specs.Numbering.{Inverse}
 use Rattle.number.proofs.Laws.{inverse, and-left, and-right}
+use Rattle.mask.specs.Mask.{full}
 use Rattle.store.specs.Log.{isAbort, perform, wroteAbort}
 use Rattle.store.proofs.Laws.{log-cases}
 use Rattle.participant.specs.Participant
@@ -57,9 +58,9 @@ abbrev Learns : Participant → LogRecord → Transition → Type 0
 Learns p r NotDue = Unit {0}
 Learns p r (To q x) = p ≢ RecordingAbort → isAbort r ≡ true → learnt (known p) (known q) ≡ Outcome.Abort
 
-answer-learns : (n i j : ℕ) (p : Participant) (r : LogRecord) → Learns p r (Participant.onAnswer n i p j r)
-answer-learns n i j p r =
-    answer-cases n i j Learns (record {
+answer-learns : (all i j : ℕ) (p : Participant) (r : LogRecord) → Learns p r (Participant.onAnswer all i p j r)
+answer-learns all i j p r =
+    answer-cases all i j Learns (record {
       none = λ p r. tt;
       vote-yes = λ d e. absurd (false≢true e);
       vote-abort = λ d e. refl;
@@ -95,16 +96,16 @@ abbrev CoordinatorLearns : LogRecord → Coordinator → CoordinatorTransition �
 CoordinatorLearns r c CoordinatorTransition.NotDue = Unit {0}
 CoordinatorLearns r c (CoordinatorTransition.To d x) = isAbort r ≡ true → learnt (coordinatorKnown c) (coordinatorKnown d) ≡ Outcome.Abort
 
-heard-learns : (n h k : ℕ) (r : LogRecord) → CoordinatorLearns r (Coordinator.Terminating h) (Coordinator.onHeard n k r)
-heard-learns n h k None = tt
-heard-learns n h k Yes =
-    enters-cases (CoordinatorLearns Yes (Coordinator.Terminating h)) (Coordinator.unlessFull n k (Coordinator.Terminating k)) (λ e. absurd (false≢true e)) (λ q e. absurd (false≢true e))
+heard-learns : (all h k : ℕ) (r : LogRecord) → CoordinatorLearns r (Coordinator.Terminating h) (Coordinator.onHeard all k r)
+heard-learns all h k None = tt
+heard-learns all h k Yes =
+    enters-cases (CoordinatorLearns Yes (Coordinator.Terminating h)) (Coordinator.unlessFull all k (Coordinator.Terminating k)) (λ e. absurd (false≢true e)) (λ q e. absurd (false≢true e))
     (λ q e. absurd (false≢true e))
-heard-learns n h k Abort = λ e. refl
-heard-learns n h k Commit = λ e. absurd (false≢true e)
+heard-learns all h k Abort = λ e. refl
+heard-learns all h k Commit = λ e. absurd (false≢true e)
 
-coordinator-answer-learns : (n j : ℕ) (r : LogRecord) (c : Coordinator) → CoordinatorLearns r c (Coordinator.onAnswer n c j r)
-coordinator-answer-learns n j r c = coordinator-answer-cases (CoordinatorLearns r) n j r (λ c. tt) (λ h. heard-learns n h _ r) c
+coordinator-answer-learns : (all j : ℕ) (r : LogRecord) (c : Coordinator) → CoordinatorLearns r c (Coordinator.onAnswer all c j r)
+coordinator-answer-learns all j r c = coordinator-answer-cases (CoordinatorLearns r) all j r (λ c. tt) (λ h. heard-learns all h _ r) c
 
 -- by the outcome of a step with the word
 
@@ -134,13 +135,13 @@ heard-aborts : (r : Release) (i j : ℕ) (l : Logged) (p : Participant) (x : Sen
     → learnt (known (participantOf r i)) (known p) ≡ Outcome.Abort
 heard-aborts r i j l p x a e =
     let w = wrote-it (suc i) j l e in
-    subst (Learns (participantOf r i) (l .answer)) (a .answer) (answer-learns (r .n) i j (participantOf r i) (l .answer))
+    subst (Learns (participantOf r i) (l .answer)) (a .answer) (answer-learns (full (r .n)) i j (participantOf r i) (l .answer))
     (not-recording i j (participantOf r i) (logOf r j) l (a .done) (w .0)) (w .1)
 
 coordinator-aborts : (r : Release) (j : ℕ) (l : Logged) (c : Coordinator) (x : Sent) → CoordinatorCall r j l c x → closes 0 j l ≡ true
     → learnt (coordinatorKnown (r .coordinator)) (coordinatorKnown c) ≡ Outcome.Abort
 coordinator-aborts r j l c x a e =
-    subst (CoordinatorLearns (l .answer) (r .coordinator)) (a .answer) (coordinator-answer-learns (r .n) j (l .answer) (r .coordinator)) (wrote-it 0 j l e .1)
+    subst (CoordinatorLearns (l .answer) (r .coordinator)) (a .answer) (coordinator-answer-learns (full (r .n)) j (l .answer) (r .coordinator)) (wrote-it 0 j l e .1)
 
 caused-by : (r : Release) {s : Step} {t : Report} → Cause r s t → t .closed ≡ true → ClosedBy s (t .outcome)
 caused-by r idles e = unclosed refl e

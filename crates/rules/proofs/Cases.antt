@@ -40,19 +40,19 @@ decision-cases P d a b c DoneCommit = c DoneCommit
 decision-cases P d a b c DoneAbort = c DoneAbort
 decision-cases P d a b c Down = c Down
 
-pub timeout-cases : (P : Participant → Transition → Type 0) (n i : ℕ) → P Waiting (Participant.to Closing)
-    → P Uncertain (Participant.to (Participant.terminating n i 0)) → ((h : ℕ) → P (Terminating h) (Participant.to (Terminating 0)))
-    → ((p : Participant) → P p NotDue) → (p : Participant) → P p (Participant.onTimeout n i p)
-timeout-cases P n i a b c d Waiting = a
-timeout-cases P n i a b c d VotingYes = d VotingYes
-timeout-cases P n i a b c d Closing = d Closing
-timeout-cases P n i a b c d Uncertain = b
-timeout-cases P n i a b c d (Terminating h) = c h
-timeout-cases P n i a b c d RecordingCommit = d RecordingCommit
-timeout-cases P n i a b c d RecordingAbort = d RecordingAbort
-timeout-cases P n i a b c d DoneCommit = d DoneCommit
-timeout-cases P n i a b c d DoneAbort = d DoneAbort
-timeout-cases P n i a b c d Down = d Down
+pub timeout-cases : (P : Participant → Transition → Type 0) (all i : ℕ) → P Waiting (Participant.to Closing)
+    → P Uncertain (Participant.to (Participant.terminating all i 0)) → ((h : ℕ) → P (Terminating h) (Participant.to (Terminating 0)))
+    → ((p : Participant) → P p NotDue) → (p : Participant) → P p (Participant.onTimeout all i p)
+timeout-cases P all i a b c d Waiting = a
+timeout-cases P all i a b c d VotingYes = d VotingYes
+timeout-cases P all i a b c d Closing = d Closing
+timeout-cases P all i a b c d Uncertain = b
+timeout-cases P all i a b c d (Terminating h) = c h
+timeout-cases P all i a b c d RecordingCommit = d RecordingCommit
+timeout-cases P all i a b c d RecordingAbort = d RecordingAbort
+timeout-cases P all i a b c d DoneCommit = d DoneCommit
+timeout-cases P all i a b c d DoneAbort = d DoneAbort
+timeout-cases P all i a b c d Down = d Down
 
 pub crash-cases : (P : Participant → Transition → Type 0) → ((p : Participant) → P p (Participant.to Down)) → P Down NotDue
     → (p : Participant) → P p (Participant.onCrash p)
@@ -81,46 +81,46 @@ restart-cases P a b DoneAbort = b DoneAbort
 restart-cases P a b Down = a
 
 -- the answers: every case in which a call's answer moves a participant. `j` is the log that answered
-pub record AnswerCases (n i j : ℕ) (P : Participant → LogRecord → Transition → Type 0) : Type 0 where
+pub record AnswerCases (all i j : ℕ) (P : Participant → LogRecord → Transition → Type 0) : Type 0 where
   pub none : (p : Participant) (r : LogRecord) → P p r NotDue
   pub vote-yes : P VotingYes Yes (Participant.sends Message.ReplyYes Uncertain)
   pub vote-abort : P VotingYes Abort (Participant.sends Message.ReplyAbort DoneAbort)
-  pub close-yes : P Closing Yes (Participant.to (Participant.terminating n i 0))
+  pub close-yes : P Closing Yes (Participant.to (Participant.terminating all i 0))
   pub close-abort : P Closing Abort (Participant.sends Message.ReplyAbort DoneAbort)
   pub close-commit : P Closing Commit (Participant.to DoneCommit)
-  pub hear-yes : (h : ℕ) → P (Terminating h) Yes (Participant.to (Participant.terminating n i (insert j h)))
+  pub hear-yes : (h : ℕ) → P (Terminating h) Yes (Participant.to (Participant.terminating all i (insert j h)))
   pub hear-abort : (h : ℕ) → P (Terminating h) Abort (Participant.to RecordingAbort)
   pub hear-commit : (h : ℕ) → P (Terminating h) Commit (Participant.to RecordingCommit)
   pub record-commit : P RecordingCommit Commit (Participant.to DoneCommit)
   pub record-abort : P RecordingAbort Abort (Participant.to DoneAbort)
 
-pub answer-cases : (n i j : ℕ) (P : Participant → LogRecord → Transition → Type 0) → AnswerCases n i j P → (p : Participant) (r : LogRecord)
-    → P p r (Participant.onAnswer n i p j r)
-answer-cases n i j P c Waiting r = c .none Waiting r
-answer-cases n i j P c VotingYes None = c .none VotingYes None
-answer-cases n i j P c VotingYes Yes = c .vote-yes
-answer-cases n i j P c VotingYes Abort = c .vote-abort
-answer-cases n i j P c VotingYes Commit = c .none VotingYes Commit
-answer-cases n i j P c Closing None = c .none Closing None
-answer-cases n i j P c Closing Yes = c .close-yes
-answer-cases n i j P c Closing Abort = c .close-abort
-answer-cases n i j P c Closing Commit = c .close-commit
-answer-cases n i j P c Uncertain r = c .none Uncertain r
-answer-cases n i j P c (Terminating h) None = c .none (Terminating h) None
-answer-cases n i j P c (Terminating h) Yes = c .hear-yes h
-answer-cases n i j P c (Terminating h) Abort = c .hear-abort h
-answer-cases n i j P c (Terminating h) Commit = c .hear-commit h
-answer-cases n i j P c RecordingCommit None = c .none RecordingCommit None
-answer-cases n i j P c RecordingCommit Yes = c .none RecordingCommit Yes
-answer-cases n i j P c RecordingCommit Abort = c .none RecordingCommit Abort
-answer-cases n i j P c RecordingCommit Commit = c .record-commit
-answer-cases n i j P c RecordingAbort None = c .none RecordingAbort None
-answer-cases n i j P c RecordingAbort Yes = c .none RecordingAbort Yes
-answer-cases n i j P c RecordingAbort Abort = c .record-abort
-answer-cases n i j P c RecordingAbort Commit = c .none RecordingAbort Commit
-answer-cases n i j P c DoneCommit r = c .none DoneCommit r
-answer-cases n i j P c DoneAbort r = c .none DoneAbort r
-answer-cases n i j P c Down r = c .none Down r
+pub answer-cases : (all i j : ℕ) (P : Participant → LogRecord → Transition → Type 0) → AnswerCases all i j P → (p : Participant) (r : LogRecord)
+    → P p r (Participant.onAnswer all i p j r)
+answer-cases all i j P c Waiting r = c .none Waiting r
+answer-cases all i j P c VotingYes None = c .none VotingYes None
+answer-cases all i j P c VotingYes Yes = c .vote-yes
+answer-cases all i j P c VotingYes Abort = c .vote-abort
+answer-cases all i j P c VotingYes Commit = c .none VotingYes Commit
+answer-cases all i j P c Closing None = c .none Closing None
+answer-cases all i j P c Closing Yes = c .close-yes
+answer-cases all i j P c Closing Abort = c .close-abort
+answer-cases all i j P c Closing Commit = c .close-commit
+answer-cases all i j P c Uncertain r = c .none Uncertain r
+answer-cases all i j P c (Terminating h) None = c .none (Terminating h) None
+answer-cases all i j P c (Terminating h) Yes = c .hear-yes h
+answer-cases all i j P c (Terminating h) Abort = c .hear-abort h
+answer-cases all i j P c (Terminating h) Commit = c .hear-commit h
+answer-cases all i j P c RecordingCommit None = c .none RecordingCommit None
+answer-cases all i j P c RecordingCommit Yes = c .none RecordingCommit Yes
+answer-cases all i j P c RecordingCommit Abort = c .none RecordingCommit Abort
+answer-cases all i j P c RecordingCommit Commit = c .record-commit
+answer-cases all i j P c RecordingAbort None = c .none RecordingAbort None
+answer-cases all i j P c RecordingAbort Yes = c .none RecordingAbort Yes
+answer-cases all i j P c RecordingAbort Abort = c .record-abort
+answer-cases all i j P c RecordingAbort Commit = c .none RecordingAbort Commit
+answer-cases all i j P c DoneCommit r = c .none DoneCommit r
+answer-cases all i j P c DoneAbort r = c .none DoneAbort r
+answer-cases all i j P c Down r = c .none Down r
 
 -- the coordinator
 
@@ -134,16 +134,16 @@ start-cases P a b Coordinator.Abort = b
 start-cases P a b Coordinator.Down = b
 start-cases P a b Coordinator.Retired = b
 
-pub replyYes-cases : (P : Coordinator → CoordinatorTransition → Type 0) (n i : ℕ)
-    → ((h : ℕ) → P (Coordinator.Waiting h) (Coordinator.enters (Coordinator.unlessFull n (insert i h) (Coordinator.Waiting (insert i h)))))
-    → ((c : Coordinator) → P c (Coordinator.to c)) → (c : Coordinator) → P c (Coordinator.onReplyYes n i c)
-replyYes-cases P n i a b Coordinator.Idle = b Coordinator.Idle
-replyYes-cases P n i a b (Coordinator.Waiting h) = a h
-replyYes-cases P n i a b (Coordinator.Terminating h) = b (Coordinator.Terminating h)
-replyYes-cases P n i a b Coordinator.Commit = b Coordinator.Commit
-replyYes-cases P n i a b Coordinator.Abort = b Coordinator.Abort
-replyYes-cases P n i a b Coordinator.Down = b Coordinator.Down
-replyYes-cases P n i a b Coordinator.Retired = b Coordinator.Retired
+pub replyYes-cases : (P : Coordinator → CoordinatorTransition → Type 0) (all i : ℕ)
+    → ((h : ℕ) → P (Coordinator.Waiting h) (Coordinator.enters (Coordinator.unlessFull all (insert i h) (Coordinator.Waiting (insert i h)))))
+    → ((c : Coordinator) → P c (Coordinator.to c)) → (c : Coordinator) → P c (Coordinator.onReplyYes all i c)
+replyYes-cases P all i a b Coordinator.Idle = b Coordinator.Idle
+replyYes-cases P all i a b (Coordinator.Waiting h) = a h
+replyYes-cases P all i a b (Coordinator.Terminating h) = b (Coordinator.Terminating h)
+replyYes-cases P all i a b Coordinator.Commit = b Coordinator.Commit
+replyYes-cases P all i a b Coordinator.Abort = b Coordinator.Abort
+replyYes-cases P all i a b Coordinator.Down = b Coordinator.Down
+replyYes-cases P all i a b Coordinator.Retired = b Coordinator.Retired
 
 pub replyAbort-cases : (P : Coordinator → CoordinatorTransition → Type 0)
     → ((h : ℕ) → P (Coordinator.Waiting h) (Coordinator.enters Coordinator.Abort)) → ((c : Coordinator) → P c (Coordinator.to c))
@@ -166,16 +166,16 @@ coordinator-timeout-cases P a b Coordinator.Abort = b
 coordinator-timeout-cases P a b Coordinator.Down = b
 coordinator-timeout-cases P a b Coordinator.Retired = b
 
-pub coordinator-answer-cases : (P : Coordinator → CoordinatorTransition → Type 0) (n j : ℕ) (r : LogRecord)
-    → ((c : Coordinator) → P c CoordinatorTransition.NotDue) → ((h : ℕ) → P (Coordinator.Terminating h) (Coordinator.onHeard n (insert j h) r))
-    → (c : Coordinator) → P c (Coordinator.onAnswer n c j r)
-coordinator-answer-cases P n j r a b Coordinator.Idle = a Coordinator.Idle
-coordinator-answer-cases P n j r a b (Coordinator.Waiting h) = a (Coordinator.Waiting h)
-coordinator-answer-cases P n j r a b (Coordinator.Terminating h) = b h
-coordinator-answer-cases P n j r a b Coordinator.Commit = a Coordinator.Commit
-coordinator-answer-cases P n j r a b Coordinator.Abort = a Coordinator.Abort
-coordinator-answer-cases P n j r a b Coordinator.Down = a Coordinator.Down
-coordinator-answer-cases P n j r a b Coordinator.Retired = a Coordinator.Retired
+pub coordinator-answer-cases : (P : Coordinator → CoordinatorTransition → Type 0) (all j : ℕ) (r : LogRecord)
+    → ((c : Coordinator) → P c CoordinatorTransition.NotDue) → ((h : ℕ) → P (Coordinator.Terminating h) (Coordinator.onHeard all (insert j h) r))
+    → (c : Coordinator) → P c (Coordinator.onAnswer all c j r)
+coordinator-answer-cases P all j r a b Coordinator.Idle = a Coordinator.Idle
+coordinator-answer-cases P all j r a b (Coordinator.Waiting h) = a (Coordinator.Waiting h)
+coordinator-answer-cases P all j r a b (Coordinator.Terminating h) = b h
+coordinator-answer-cases P all j r a b Coordinator.Commit = a Coordinator.Commit
+coordinator-answer-cases P all j r a b Coordinator.Abort = a Coordinator.Abort
+coordinator-answer-cases P all j r a b Coordinator.Down = a Coordinator.Down
+coordinator-answer-cases P all j r a b Coordinator.Retired = a Coordinator.Retired
 
 pub coordinator-crash-cases : (P : Coordinator → CoordinatorTransition → Type 0) → ((c : Coordinator) → P c (Coordinator.to Coordinator.Down))
     → P Coordinator.Down CoordinatorTransition.NotDue → (c : Coordinator) → P c (Coordinator.onCrash c)

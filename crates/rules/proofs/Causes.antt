@@ -2,6 +2,7 @@
 use mathlib.Core.Path.{_≡_, refl}
 use mathlib.Core.Bool.{Bool, true, false, cond}
 use Prim.Native.Nat.{ℕ, zero, suc}
+use Rattle.mask.specs.Mask.{full}
 use Rattle.store.specs.Log.{perform}
 use Rattle.participant.specs.Participant
 use Rattle.coordinator.specs.Coordinator
@@ -13,12 +14,12 @@ use Rattle.rules.specs.Types.{Logged, Performed, Participant, Sent, Tran
 -- a due call of participant i on log j, that leaves x and leads to state p with s sent
 pub record ParticipantCall (r : Release) (i j : ℕ) (x : Logged) (p : Participant) (s : Sent) : Type 0 where
   pub done : perform (Participant.pending i (participantOf r i) j) (logOf r j) ≡ Performed.Done x
-  pub answer : Participant.onAnswer (r .n) i (participantOf r i) j (x .answer) ≡ To p s
+  pub answer : Participant.onAnswer (full (r .n)) i (participantOf r i) j (x .answer) ≡ To p s
 
 -- a due call of the coordinator
 pub record CoordinatorCall (r : Release) (j : ℕ) (x : Logged) (c : Coordinator) (s : Sent) : Type 0 where
   pub done : perform (Coordinator.pending (r .coordinator) j) (logOf r j) ≡ Performed.Done x
-  pub answer : Coordinator.onAnswer (r .n) (r .coordinator) j (x .answer) ≡ CoordinatorTransition.To c s
+  pub answer : Coordinator.onAnswer (full (r .n)) (r .coordinator) j (x .answer) ≡ CoordinatorTransition.To c s
 
 pub data Cause (r : Release) : Step → Report → Type 0 where
   idles : {s : Step} → Cause r s (idle r)
@@ -34,7 +35,7 @@ pub data Cause (r : Release) : Step → Report → Type 0 where
       → Cause r (Step.Call zero (suc j)) (withClosed (closes 0 j l) (coordinatorTo c x (called 0 j (l .log) r)))
   coordinator-lost : {j : ℕ} {l : Logged} {c : Coordinator} {x : Sent} → CoordinatorCall r j l c x
       → Cause r (Step.CallLost zero (suc j)) (withClosed (closes 0 j l) (moved (called 0 j (l .log) r)))
-  times-out : {i : ℕ} {p : Participant} {x : Sent} → Participant.onTimeout (r .n) i (participantOf r i) ≡ To p x
+  times-out : {i : ℕ} {p : Participant} {x : Sent} → Participant.onTimeout (full (r .n)) i (participantOf r i) ≡ To p x
       → Cause r (Timeout (suc i)) (participantTo i p x r)
   crashes : {i : ℕ} {p : Participant} {x : Sent} → Participant.onCrash (participantOf r i) ≡ To p x → Cause r (Crash (suc i)) (participantTo i p x r)
   restarts : {i : ℕ} {p : Participant} {x : Sent} → Participant.onRestart (participantOf r i) ≡ To p x → Cause r (Restart (suc i)) (participantTo i p x r)
@@ -61,7 +62,7 @@ module _ (r : Release) (s : Step) where
   flight-cause b₀ false t q f = idles
 
 answered-cause : (r : Release) (i j : ℕ) (l : Logged) (t : Transition) → perform (Participant.pending i (participantOf r i) j) (logOf r j) ≡ Performed.Done l
-    → Participant.onAnswer (r .n) i (participantOf r i) j (l .answer) ≡ t
+    → Participant.onAnswer (full (r .n)) i (participantOf r i) j (l .answer) ≡ t
     → Cause r (Step.Call (suc i) (suc j)) (participantAnswered true i j l t r) × Cause r (Step.CallLost (suc i) (suc j)) (participantAnswered false i j l t r)
 answered-cause r i j l NotDue q e = (idles, idles)
 answered-cause r i j l (To p x) q e = (answered (record { done = q; answer = e }), lost (record { done = q; answer = e }))
@@ -69,10 +70,10 @@ answered-cause r i j l (To p x) q e = (answered (record { done = q; answer = e }
 performed-cause : (r : Release) (i j : ℕ) (s : Performed) → perform (Participant.pending i (participantOf r i) j) (logOf r j) ≡ s
     → Cause r (Step.Call (suc i) (suc j)) (participantPerformed true i j s r) × Cause r (Step.CallLost (suc i) (suc j)) (participantPerformed false i j s r)
 performed-cause r i j Performed.Refused q = (idles, idles)
-performed-cause r i j (Performed.Done l) q = answered-cause r i j l (Participant.onAnswer (r .n) i (participantOf r i) j (l .answer)) q refl
+performed-cause r i j (Performed.Done l) q = answered-cause r i j l (Participant.onAnswer (full (r .n)) i (participantOf r i) j (l .answer)) q refl
 
 coordinator-answered-cause : (r : Release) (j : ℕ) (l : Logged) (t : CoordinatorTransition)
-    → perform (Coordinator.pending (r .coordinator) j) (logOf r j) ≡ Performed.Done l → Coordinator.onAnswer (r .n) (r .coordinator) j (l .answer) ≡ t
+    → perform (Coordinator.pending (r .coordinator) j) (logOf r j) ≡ Performed.Done l → Coordinator.onAnswer (full (r .n)) (r .coordinator) j (l .answer) ≡ t
     → Cause r (Step.Call zero (suc j)) (coordinatorAnswered true j l t r) × Cause r (Step.CallLost zero (suc j)) (coordinatorAnswered false j l t r)
 coordinator-answered-cause r j l CoordinatorTransition.NotDue q e = (idles, idles)
 coordinator-answered-cause r j l (CoordinatorTransition.To c x) q e =
@@ -82,7 +83,7 @@ coordinator-performed-cause : (r : Release) (j : ℕ) (s : Performed) → perfor
     → Cause r (Step.Call zero (suc j)) (coordinatorPerformed true j s r) × Cause r (Step.CallLost zero (suc j)) (coordinatorPerformed false j s r)
 coordinator-performed-cause r j Performed.Refused q = (idles, idles)
 coordinator-performed-cause r j (Performed.Done l) q =
-    coordinator-answered-cause r j l (Coordinator.onAnswer (r .n) (r .coordinator) j (l .answer)) q refl
+    coordinator-answered-cause r j l (Coordinator.onAnswer (full (r .n)) (r .coordinator) j (l .answer)) q refl
 
 pub cause : (r : Release) (s : Step) → Cause r s (step r s)
 unfolding participantCalls coordinatorCalls
@@ -103,7 +104,7 @@ cause r (Step.CallLost (suc i) zero) = idles
 cause r (Step.CallLost (suc i) (suc j)) = performed-cause r i j (perform (Participant.pending i (participantOf r i) j) (logOf r j)) refl .1
 cause r (Timeout zero) = coordinator-cause r (Timeout zero) (Coordinator.onTimeout (r .coordinator)) (Coordinator.onTimeout (r .coordinator)) refl (λ c x q. coordinator-times-out q)
 cause r (Timeout (suc i)) =
-    goes-cause r (Timeout (suc i)) i (Participant.onTimeout (r .n) i (participantOf r i)) (Participant.onTimeout (r .n) i (participantOf r i)) refl (λ p x q. times-out q)
+    goes-cause r (Timeout (suc i)) i (Participant.onTimeout (full (r .n)) i (participantOf r i)) (Participant.onTimeout (full (r .n)) i (participantOf r i)) refl (λ p x q. times-out q)
 cause r (Crash zero) = coordinator-cause r (Crash zero) (Coordinator.onCrash (r .coordinator)) (Coordinator.onCrash (r .coordinator)) refl (λ c x q. coordinator-crashes q)
 cause r (Crash (suc i)) = goes-cause r (Crash (suc i)) i (Participant.onCrash (participantOf r i)) (Participant.onCrash (participantOf r i)) refl (λ p x q. crashes q)
 cause r (Restart zero) = coordinator-cause r (Restart zero) (Coordinator.onRestart (r .coordinator)) (Coordinator.onRestart (r .coordinator)) refl (λ c x q. coordinator-restarts q)

@@ -10,6 +10,7 @@ use lib.ListN.{length, getD, set}
 use lib.Seq.{getD-set-same}
 use borrow.Author.Tests.{eqb-false, not-true, ne-eqb}
 use Rattle.number.proofs.Laws.{and-left, and-right, and-true}
+use Rattle.mask.specs.Mask.{full}
 use Rattle.store.specs.Log.{empty, isNone, isAbort, perform, wroteAbort}
 use Rattle.store.proofs.Laws.{once-cases, log-cases}
 use Rattle.participant.specs.Participant
@@ -96,7 +97,7 @@ goes-closed (CoordinatorTransition.To c s) r = coordinator-closed c s r
 
 pub receive-closed : (m : Message) (i : ℕ) (r : Release) → receive m i r .closed ≡ false
 receive-closed Message.Request i r = to-closed i _ Sent.Nothing r
-receive-closed Message.ReplyYes i r = goes-closed (Coordinator.onReplyYes (r .n) i (r .coordinator)) r
+receive-closed Message.ReplyYes i r = goes-closed (Coordinator.onReplyYes (full (r .n)) i (r .coordinator)) r
 receive-closed Message.ReplyAbort i r = goes-closed (Coordinator.onReplyAbort (r .coordinator)) r
 receive-closed Message.Commit i r = to-closed i _ Sent.Nothing r
 receive-closed Message.Abort i r = to-closed i _ Sent.Nothing r

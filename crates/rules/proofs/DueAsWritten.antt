@@ -3,7 +3,7 @@ use mathlib.Core.Path.{_≡_, refl, _∙_}
 use mathlib.Core.Bool.{Bool, true, false, not, cond}
 use mathlib.Core.List.{[], _∷_}
 use Prim.Native.Nat.{ℕ, zero, suc}
-use Rattle.mask.specs.Mask.{insert}
+use Rattle.mask.specs.Mask.{insert, full}
 use Rattle.store.specs.Log.{perform}
 use Rattle.participant.specs.Participant
 use Rattle.coordinator.specs.Coordinator
@@ -53,17 +53,17 @@ coordinator-restart-leads Coordinator.Abort = refl
 coordinator-restart-leads Coordinator.Down = refl
 coordinator-restart-leads Coordinator.Retired = refl
 
-timeout-leads : (n i : ℕ) (p : Participant) → leads (Participant.onTimeout n i p) ≡ inStates Participant.stateNumber (Waiting ∷ Uncertain ∷ Terminating 0 ∷ []) p
-timeout-leads n i Waiting = refl
-timeout-leads n i VotingYes = refl
-timeout-leads n i Closing = refl
-timeout-leads n i Uncertain = refl
-timeout-leads n i (Terminating h) = refl
-timeout-leads n i RecordingCommit = refl
-timeout-leads n i RecordingAbort = refl
-timeout-leads n i DoneCommit = refl
-timeout-leads n i DoneAbort = refl
-timeout-leads n i Down = refl
+timeout-leads : (all i : ℕ) (p : Participant) → leads (Participant.onTimeout all i p) ≡ inStates Participant.stateNumber (Waiting ∷ Uncertain ∷ Terminating 0 ∷ []) p
+timeout-leads all i Waiting = refl
+timeout-leads all i VotingYes = refl
+timeout-leads all i Closing = refl
+timeout-leads all i Uncertain = refl
+timeout-leads all i (Terminating h) = refl
+timeout-leads all i RecordingCommit = refl
+timeout-leads all i RecordingAbort = refl
+timeout-leads all i DoneCommit = refl
+timeout-leads all i DoneAbort = refl
+timeout-leads all i Down = refl
 
 crash-leads : (p : Participant) → leads (Participant.onCrash p) ≡ not (inStates Participant.stateNumber (Down ∷ []) p)
 crash-leads Waiting = refl
@@ -110,32 +110,32 @@ Asks DoneCommit = ⊥
 Asks DoneAbort = ⊥
 Asks Down = ⊥
 
-answer-leads : (n i j : ℕ) (p : Participant) (a : LogRecord) → Asks p → leads (Participant.onAnswer n i p j a) ≡ canGet p a
-answer-leads n i j Waiting a h = absurd h
-answer-leads n i j VotingYes None h = refl
-answer-leads n i j VotingYes Yes h = refl
-answer-leads n i j VotingYes Abort h = refl
-answer-leads n i j VotingYes Commit h = refl
-answer-leads n i j Closing None h = refl
-answer-leads n i j Closing Yes h = refl
-answer-leads n i j Closing Abort h = refl
-answer-leads n i j Closing Commit h = refl
-answer-leads n i j Uncertain a h = absurd h
-answer-leads n i j (Terminating m) None h = refl
-answer-leads n i j (Terminating m) Yes h = refl
-answer-leads n i j (Terminating m) Abort h = refl
-answer-leads n i j (Terminating m) Commit h = refl
-answer-leads n i j RecordingCommit None h = refl
-answer-leads n i j RecordingCommit Yes h = refl
-answer-leads n i j RecordingCommit Abort h = refl
-answer-leads n i j RecordingCommit Commit h = refl
-answer-leads n i j RecordingAbort None h = refl
-answer-leads n i j RecordingAbort Yes h = refl
-answer-leads n i j RecordingAbort Abort h = refl
-answer-leads n i j RecordingAbort Commit h = refl
-answer-leads n i j DoneCommit a h = absurd h
-answer-leads n i j DoneAbort a h = absurd h
-answer-leads n i j Down a h = absurd h
+answer-leads : (all i j : ℕ) (p : Participant) (a : LogRecord) → Asks p → leads (Participant.onAnswer all i p j a) ≡ canGet p a
+answer-leads all i j Waiting a h = absurd h
+answer-leads all i j VotingYes None h = refl
+answer-leads all i j VotingYes Yes h = refl
+answer-leads all i j VotingYes Abort h = refl
+answer-leads all i j VotingYes Commit h = refl
+answer-leads all i j Closing None h = refl
+answer-leads all i j Closing Yes h = refl
+answer-leads all i j Closing Abort h = refl
+answer-leads all i j Closing Commit h = refl
+answer-leads all i j Uncertain a h = absurd h
+answer-leads all i j (Terminating m) None h = refl
+answer-leads all i j (Terminating m) Yes h = refl
+answer-leads all i j (Terminating m) Abort h = refl
+answer-leads all i j (Terminating m) Commit h = refl
+answer-leads all i j RecordingCommit None h = refl
+answer-leads all i j RecordingCommit Yes h = refl
+answer-leads all i j RecordingCommit Abort h = refl
+answer-leads all i j RecordingCommit Commit h = refl
+answer-leads all i j RecordingAbort None h = refl
+answer-leads all i j RecordingAbort Yes h = refl
+answer-leads all i j RecordingAbort Abort h = refl
+answer-leads all i j RecordingAbort Commit h = refl
+answer-leads all i j DoneCommit a h = absurd h
+answer-leads all i j DoneAbort a h = absurd h
+answer-leads all i j Down a h = absurd h
 
 -- a state with no call pending performs nothing
 abbrev CallOf : Participant → Performed → Type 0
@@ -167,15 +167,15 @@ performed-moves : (heard : Bool) (i j : ℕ) (s : Performed) (r : Release) → C
     → moves (participantPerformed heard i j s r .outcome) ≡ answerable (participantOf r i) s
 performed-moves heard i j Performed.Refused r c = refl
 performed-moves heard i j (Performed.Done x) r c =
-    answered-moves heard i j x (Participant.onAnswer (r .n) i (participantOf r i) j (x .answer)) r ∙ answer-leads (r .n) i j (participantOf r i) (x .answer) c
+    answered-moves heard i j x (Participant.onAnswer (full (r .n)) i (participantOf r i) j (x .answer)) r ∙ answer-leads (full (r .n)) i j (participantOf r i) (x .answer) c
 
 -- the coordinator hears as a participant does in 4
 
-heard-leads : (n h : ℕ) (a : LogRecord) → coordinatorLeads (Coordinator.onHeard n h a) ≡ canGet (Terminating 0) a
-heard-leads n h None = refl
-heard-leads n h Yes = enters-leads (Coordinator.unlessFull n h (Coordinator.Terminating h))
-heard-leads n h Abort = refl
-heard-leads n h Commit = refl
+heard-leads : (all h : ℕ) (a : LogRecord) → coordinatorLeads (Coordinator.onHeard all h a) ≡ canGet (Terminating 0) a
+heard-leads all h None = refl
+heard-leads all h Yes = enters-leads (Coordinator.unlessFull all h (Coordinator.Terminating h))
+heard-leads all h Abort = refl
+heard-leads all h Commit = refl
 
 coordinator-answered-moves : (heard : Bool) (j : ℕ) (x : Logged) (t : CoordinatorTransition) (r : Release)
     → moves (coordinatorAnswered heard j x t r .outcome) ≡ coordinatorLeads t
@@ -185,11 +185,11 @@ coordinator-answered-moves false j x (CoordinatorTransition.To c s) r = refl
 
 abbrev CoordinatorCallOf : Coordinator → Performed → Type 0
 CoordinatorCallOf c Performed.Refused = Unit {0}
-CoordinatorCallOf c (Performed.Done x) = (n j : ℕ) → coordinatorLeads (Coordinator.onAnswer n c j (x .answer)) ≡ canGet (Terminating 0) (x .answer)
+CoordinatorCallOf c (Performed.Done x) = (all j : ℕ) → coordinatorLeads (Coordinator.onAnswer all c j (x .answer)) ≡ canGet (Terminating 0) (x .answer)
 
 terminating-asks : (h : ℕ) (s : Performed) → CoordinatorCallOf (Coordinator.Terminating h) s
 terminating-asks h Performed.Refused = tt
-terminating-asks h (Performed.Done x) = λ n j. heard-leads n (insert j h) (x .answer)
+terminating-asks h (Performed.Done x) = λ all j. heard-leads all (insert j h) (x .answer)
 
 coordinator-pending-asks : (c : Coordinator) (j : ℕ) (l : LogPair) → CoordinatorCallOf c (perform (Coordinator.pending c j) l)
 coordinator-pending-asks Coordinator.Idle j l = tt
@@ -204,7 +204,7 @@ coordinator-performed-moves : (heard : Bool) (j : ℕ) (s : Performed) (r : Rele
     → moves (coordinatorPerformed heard j s r .outcome) ≡ answerable (Terminating 0) s
 coordinator-performed-moves heard j Performed.Refused r c = refl
 coordinator-performed-moves heard j (Performed.Done x) r c =
-    coordinator-answered-moves heard j x (Coordinator.onAnswer (r .n) (r .coordinator) j (x .answer)) r ∙ c (r .n) j
+    coordinator-answered-moves heard j x (Coordinator.onAnswer (full (r .n)) (r .coordinator) j (x .answer)) r ∙ c (full (r .n)) j
 
 call-moves : (heard : Bool) (p q : ℕ) (r : Release) → moves (calls heard p q r .outcome) ≡ callDue r p q
 unfolding participantCalls coordinatorCalls
@@ -226,7 +226,7 @@ due-as-written r (Lose m (suc i)) = flight-moves (inFlight r m i) (moved (takeOu
 due-as-written r (Step.Call p q) = call-moves true p q r
 due-as-written r (Step.CallLost p q) = call-moves false p q r
 due-as-written r (Timeout zero) = coordinator-goes-moves (Coordinator.onTimeout (r .coordinator)) r ∙ coordinator-timeout-leads (r .coordinator)
-due-as-written r (Timeout (suc i)) = goes-moves i (Participant.onTimeout (r .n) i (participantOf r i)) r ∙ timeout-leads (r .n) i (participantOf r i)
+due-as-written r (Timeout (suc i)) = goes-moves i (Participant.onTimeout (full (r .n)) i (participantOf r i)) r ∙ timeout-leads (full (r .n)) i (participantOf r i)
 due-as-written r (Crash zero) = coordinator-goes-moves (Coordinator.onCrash (r .coordinator)) r ∙ coordinator-crash-leads (r .coordinator)
 due-as-written r (Crash (suc i)) = goes-moves i (Participant.onCrash (participantOf r i)) r ∙ crash-leads (participantOf r i)
 due-as-written r (Restart zero) = coordinator-goes-moves (Coordinator.onRestart (r .coordinator)) r ∙ coordinator-restart-leads (r .coordinator)

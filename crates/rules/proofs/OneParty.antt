@@ -5,6 +5,7 @@ use mathlib.Core.Bool.{Bool, true, false, cond, true≢false}
 use mathlib.Core.List.{List, [], _∷_}
 use Prim.Native.Nat.{ℕ, zero, suc, _≤_}
 use lib.ListN.{length}
+use Rattle.mask.specs.Mask.{full}
 use Rattle.participant.specs.Participant
 use Rattle.coordinator.specs.Coordinator
 use Rattle.rules.specs.State.{participantOf, inFlight}
@@ -26,7 +27,7 @@ coordinator-goes-only (CoordinatorTransition.To c s) r = coordinator-only c s r
 
 receive-only : (m : Message) (i : ℕ) (r : Release) → Only (receiver m (suc i)) r (receive m i r .next)
 receive-only Message.Request i r = participant-only i _ Sent.Nothing r
-receive-only Message.ReplyYes i r = coordinator-goes-only (Coordinator.onReplyYes (r .n) i (r .coordinator)) r
+receive-only Message.ReplyYes i r = coordinator-goes-only (Coordinator.onReplyYes (full (r .n)) i (r .coordinator)) r
 receive-only Message.ReplyAbort i r = coordinator-goes-only (Coordinator.onReplyAbort (r .coordinator)) r
 receive-only Message.Commit i r = participant-only i _ Sent.Nothing r
 receive-only Message.Abort i r = participant-only i _ Sent.Nothing r
@@ -56,7 +57,7 @@ step-only r (Lose m (suc i)) h = flight-only (inFlight r m i) (receiver m (suc i
 step-only r (Step.Call p q) h = absurd (true≢false h)
 step-only r (Step.CallLost p q) h = absurd (true≢false h)
 step-only r (Timeout zero) h = coordinator-goes-only (Coordinator.onTimeout (r .coordinator)) r
-step-only r (Timeout (suc i)) h = goes-only i (Participant.onTimeout (r .n) i (participantOf r i)) r
+step-only r (Timeout (suc i)) h = goes-only i (Participant.onTimeout (full (r .n)) i (participantOf r i)) r
 step-only r (Crash zero) h = coordinator-goes-only (Coordinator.onCrash (r .coordinator)) r
 step-only r (Crash (suc i)) h = goes-only i (Participant.onCrash (participantOf r i)) r
 step-only r (Restart zero) h = coordinator-goes-only (Coordinator.onRestart (r .coordinator)) r
@@ -140,7 +141,7 @@ coordinator-goes-reports (CoordinatorTransition.To c s) r = λ d. coordinator-re
 
 receive-reports : (m : Message) (i : ℕ) (r : Release) → receiver m (suc i) ≤ length (r .sites) → DueReports (receiver m (suc i)) r (receive m i r)
 receive-reports Message.Request i r l = λ d. participant-reports i _ Sent.Nothing r l
-receive-reports Message.ReplyYes i r l = coordinator-goes-reports (Coordinator.onReplyYes (r .n) i (r .coordinator)) r
+receive-reports Message.ReplyYes i r l = coordinator-goes-reports (Coordinator.onReplyYes (full (r .n)) i (r .coordinator)) r
 receive-reports Message.ReplyAbort i r l = coordinator-goes-reports (Coordinator.onReplyAbort (r .coordinator)) r
 receive-reports Message.Commit i r l = λ d. participant-reports i _ Sent.Nothing r l
 receive-reports Message.Abort i r l = λ d. participant-reports i _ Sent.Nothing r l
@@ -182,7 +183,7 @@ reported-as-written r (Lose m (suc i)) l =
 reported-as-written r (Step.Call p q) l = call-reports r p q l .0
 reported-as-written r (Step.CallLost p q) l = call-reports r p q l .1
 reported-as-written r (Timeout zero) l = coordinator-goes-reports (Coordinator.onTimeout (r .coordinator)) r
-reported-as-written r (Timeout (suc i)) l = goes-reports i (Participant.onTimeout (r .n) i (participantOf r i)) r l
+reported-as-written r (Timeout (suc i)) l = goes-reports i (Participant.onTimeout (full (r .n)) i (participantOf r i)) r l
 reported-as-written r (Crash zero) l = coordinator-goes-reports (Coordinator.onCrash (r .coordinator)) r
 reported-as-written r (Crash (suc i)) l = goes-reports i (Participant.onCrash (participantOf r i)) r l
 reported-as-written r (Restart zero) l = coordinator-goes-reports (Coordinator.onRestart (r .coordinator)) r

@@ -8,7 +8,7 @@ use lib.ListN.{length, getD, set, replicate, length-replicate, replicate-append-
 use lib.Seq.{set-append-left}
 use Rattle.store.specs.Log.{empty, perform}
 use Rattle.kind.specs.Step.{inRange, AllInRange}
-use Rattle.mask.specs.Mask.{has}
+use Rattle.mask.specs.Mask.{has, full}
 use Rattle.participant.specs.Participant
 use Rattle.coordinator.specs.Coordinator
 use Rattle.rules.specs.State.{waiting, participantOf, logOf, inFlight, fresh}
@@ -71,7 +71,7 @@ module _ (k : ℕ) where
   received : (m : Message) (i : ℕ) (r : Release) → i < length (r .sites) → receive m i (widened k r) ≡ widenedReport k (receive m i r)
   received Message.Request i r l =
       ap (λ (p : Participant). participantTo i (Participant.onRequest (has i (r .votes)) p) Sent.Nothing (widened k r)) (participant-same r i) ∙ to-widened i _ Sent.Nothing r l
-  received Message.ReplyYes i r l = leads (Coordinator.onReplyYes (r .n) i (r .coordinator)) r
+  received Message.ReplyYes i r l = leads (Coordinator.onReplyYes (full (r .n)) i (r .coordinator)) r
   received Message.ReplyAbort i r l = leads (Coordinator.onReplyAbort (r .coordinator)) r
   received Message.Commit i r l =
       ap (λ (p : Participant). participantTo i (Participant.onDecision Decision.Commit p) Sent.Nothing (widened k r)) (participant-same r i) ∙ to-widened i _ Sent.Nothing r l
@@ -93,8 +93,8 @@ module _ (k : ℕ) where
     performed : (heard : Bool) (x : Performed) → participantPerformed heard i j x (widened k r) ≡ widenedReport k (participantPerformed heard i j x r)
     performed heard Performed.Refused = refl
     performed heard (Performed.Done x) =
-        ap (λ (p : Participant). participantAnswered heard i j x (Participant.onAnswer (r .n) i p j (x .answer)) (widened k r)) (participant-same r i)
-        ∙ answered heard x (Participant.onAnswer (r .n) i (participantOf r i) j (x .answer))
+        ap (λ (p : Participant). participantAnswered heard i j x (Participant.onAnswer (full (r .n)) i p j (x .answer)) (widened k r)) (participant-same r i)
+        ∙ answered heard x (Participant.onAnswer (full (r .n)) i (participantOf r i) j (x .answer))
 
     calls-widened : (heard : Bool) → participantCalls heard i j (widened k r) ≡ widenedReport k (participantCalls heard i j r)
     unfolding participantCalls
@@ -110,7 +110,7 @@ module _ (k : ℕ) where
 
     lead-performed : (heard : Bool) (x : Performed) → coordinatorPerformed heard j x (widened k r) ≡ widenedReport k (coordinatorPerformed heard j x r)
     lead-performed heard Performed.Refused = refl
-    lead-performed heard (Performed.Done x) = lead-answered heard x (Coordinator.onAnswer (r .n) (r .coordinator) j (x .answer))
+    lead-performed heard (Performed.Done x) = lead-answered heard x (Coordinator.onAnswer (full (r .n)) (r .coordinator) j (x .answer))
 
     lead-calls : (heard : Bool) → coordinatorCalls heard j (widened k r) ≡ widenedReport k (coordinatorCalls heard j r)
     unfolding coordinatorCalls
@@ -141,7 +141,7 @@ module _ (k : ℕ) where
   in-step r g (Step.CallLost (suc i) (suc j)) q = calls-widened i j r (omega (arith, g .sites, q .0)) (omega (arith, g .calls, q .0)) (omega (arith, g .logs, q .2)) false
   in-step r g (Timeout zero) q = leads (Coordinator.onTimeout (r .coordinator)) r
   in-step r g (Timeout (suc i)) q =
-      ap (λ (p : Participant). participantGoes i (Participant.onTimeout (r .n) i p) (widened k r)) (participant-same r i) ∙ goes-widened i (Participant.onTimeout (r .n) i (participantOf r i)) r (omega (arith, g .sites, q))
+      ap (λ (p : Participant). participantGoes i (Participant.onTimeout (full (r .n)) i p) (widened k r)) (participant-same r i) ∙ goes-widened i (Participant.onTimeout (full (r .n)) i (participantOf r i)) r (omega (arith, g .sites, q))
   in-step r g (Crash zero) q = leads (Coordinator.onCrash (r .coordinator)) r
   in-step r g (Crash (suc i)) q =
       ap (λ (p : Participant). participantGoes i (Participant.onCrash p) (widened k r)) (participant-same r i) ∙ goes-widened i (Participant.onCrash (participantOf r i)) r (omega (arith, g .sites, q))

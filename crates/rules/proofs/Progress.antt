@@ -9,7 +9,7 @@ use native.Mathlib.Decide.{ℕ-discrete}
 use lib.Dec.{eqb·zero-suc}
 use borrow.Author.Tests.{ne-eqb}
 use Rattle.kind.specs.Step.{AllInRange}
-use Rattle.mask.specs.Mask.{has}
+use Rattle.mask.specs.Mask.{has, full}
 use Rattle.participant.specs.Participant
 use Rattle.coordinator.specs.Coordinator
 use Rattle.rules.specs.State.{participantOf, firstOf, waiting}
@@ -74,7 +74,7 @@ receive-falls : (r : Release) (i : ℕ) → i < r .n → Inv r → (m : Message)
 receive-falls r i h v Message.Request k =
     enter-falls r i k (Participant.onRequest (has k (r .votes)) (participantOf r k)) Sent.Nothing (λ q. rw q (request-rank (r .n) i h (has i (r .votes)) (participantOf r i)))
 receive-falls r i h v Message.ReplyYes k =
-    still-falls r i (receive Message.ReplyYes k r) (coordinator-goes-sites (Coordinator.onReplyYes (r .n) k (r .coordinator)) r)
+    still-falls r i (receive Message.ReplyYes k r) (coordinator-goes-sites (Coordinator.onReplyYes (full (r .n)) k (r .coordinator)) r)
 receive-falls r i h v Message.ReplyAbort k =
     still-falls r i (receive Message.ReplyAbort k r) (coordinator-goes-sites (Coordinator.onReplyAbort (r .coordinator)) r)
 receive-falls r i h v Message.Commit k =
@@ -147,7 +147,7 @@ caused-loses r i (times-out {i = k} {p} {x} q) h g v c =
   where
     lower : k ≡ i → rank (r .n) p ≤ rank (r .n) (participantOf r i)
     lower e =
-        let q′ : Participant.onTimeout (r .n) i (participantOf r i) ≡ To p x = rw e at q in
+        let q′ : Participant.onTimeout (full (r .n)) i (participantOf r i) ≡ To p x = rw e at q in
         rw q′ at (timeout-rank (r .n) i h (participantOf r i) (λ m y. true-false (participant-due k p x r) (c .timeout m (ap (λ (z : ℕ). Timeout (suc z)) e) y)))
 caused-loses r i (crashes {i = k} {p} {x} q) h g v c =
     free r i (Crash (suc k)) (participantTo k p x r) refl

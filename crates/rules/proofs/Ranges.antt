@@ -48,7 +48,7 @@ CoordinatorInRange n Coordinator.Retired = Unit {0}
 
 -- and as tests: each says the same
 
-pub participant-tested : (n i : ℕ) (p : Participant) → ParticipantInRange n i p → Participant.inRange n i p ≡ true
+pub participant-tested : (n i : ℕ) (p : Participant) → ParticipantInRange n i p → Participant.inRange (full n) i p ≡ true
 participant-tested n i Waiting h = refl
 participant-tested n i VotingYes h = refl
 participant-tested n i Closing h = refl
@@ -61,10 +61,10 @@ participant-tested n i DoneCommit h = refl
 participant-tested n i DoneAbort h = refl
 participant-tested n i Down h = refl
 
-coordinator-heard-tested : (n h : ℕ) → CoordinatorHeardInRange n h → Coordinator.heardInRange n h ≡ true
+coordinator-heard-tested : (n h : ℕ) → CoordinatorHeardInRange n h → Coordinator.heardInRange (full n) h ≡ true
 coordinator-heard-tested n x h = and-true _ _ (lt-within n x (h .below)) (ap not (ne-eqb x (full n) (h .part)))
 
-pub coordinator-tested : (n : ℕ) (c : Coordinator) → CoordinatorInRange n c → Coordinator.inRange n c ≡ true
+pub coordinator-tested : (n : ℕ) (c : Coordinator) → CoordinatorInRange n c → Coordinator.inRange (full n) c ≡ true
 coordinator-tested n Coordinator.Idle h = refl
 coordinator-tested n (Coordinator.Waiting x) h = coordinator-heard-tested n x h
 coordinator-tested n (Coordinator.Terminating x) h = coordinator-heard-tested n x h
@@ -73,7 +73,7 @@ coordinator-tested n Coordinator.Abort h = refl
 coordinator-tested n Coordinator.Down h = refl
 coordinator-tested n Coordinator.Retired h = refl
 
-pub participant-held : (n i : ℕ) (p : Participant) → Participant.inRange n i p ≡ true → ParticipantInRange n i p
+pub participant-held : (n i : ℕ) (p : Participant) → Participant.inRange (full n) i p ≡ true → ParticipantInRange n i p
 participant-held n i Waiting q = tt
 participant-held n i VotingYes q = tt
 participant-held n i Closing q = tt
@@ -136,12 +136,12 @@ CoordinatorToInRange n CoordinatorTransition.NotDue = Unit {0}
 CoordinatorToInRange n (CoordinatorTransition.To c s) = CoordinatorInRange n c
 
 module _ (n i : ℕ) (lt : i < n) where
-  terminating-range : (h : ℕ) → h < 2 ^ n → has i h ≡ false → ParticipantInRange n i (Participant.terminating n i h)
+  terminating-range : (h : ℕ) → h < 2 ^ n → has i h ≡ false → ParticipantInRange n i (Participant.terminating (full n) i h)
   terminating-range h b o =
       cond-cases (ParticipantInRange n i) (eqb (insert i h) (full n)) RecordingCommit (Terminating h) (λ t. tt)
       (λ t. record { below = b; others = o; part = eqb-false (insert i h) (full n) t })
 
-  unheard-range : ParticipantInRange n i (Participant.terminating n i 0)
+  unheard-range : ParticipantInRange n i (Participant.terminating (full n) i 0)
   unheard-range = terminating-range 0 (pow-pos n) (has-zero i)
 
   pub request-range : (vote : Bool) (p : Participant) → ParticipantInRange n i p → ParticipantInRange n i (Participant.onRequest vote p)
@@ -156,14 +156,14 @@ module _ (n i : ℕ) (lt : i < n) where
   pub decision-range : (d : Decision) (p : Participant) → ParticipantInRange n i p → ParticipantInRange n i (Participant.onDecision d p)
   decision-range d p = decision-cases (λ p p′. ParticipantInRange n i p → ParticipantInRange n i p′) d (λ k. recording-range d) (λ h k. recording-range d) (λ p k. k) p
 
-  pub timeout-range : (p : Participant) → ParticipantInRange n i p → ToInRange n i (Participant.onTimeout n i p)
+  pub timeout-range : (p : Participant) → ParticipantInRange n i p → ToInRange n i (Participant.onTimeout (full n) i p)
   timeout-range p =
-      timeout-cases (λ p t. ParticipantInRange n i p → ToInRange n i t) n i (λ k. tt) (λ k. unheard-range)
+      timeout-cases (λ p t. ParticipantInRange n i p → ToInRange n i t) (full n) i (λ k. tt) (λ k. unheard-range)
       (λ h k. record { below = pow-pos n; others = has-zero i; part = λ q. k .part (full-more n i h lt (k .below) q) }) (λ p k. tt) p
 
-  pub answer-range : (p : Participant) (j : ℕ) (a : LogRecord) → j < n → Guard i p j → ParticipantInRange n i p → ToInRange n i (Participant.onAnswer n i p j a)
+  pub answer-range : (p : Participant) (j : ℕ) (a : LogRecord) → j < n → Guard i p j → ParticipantInRange n i p → ToInRange n i (Participant.onAnswer (full n) i p j a)
   answer-range p j a l =
-      answer-cases n i j (λ p a t. Guard i p j → ParticipantInRange n i p → ToInRange n i t)
+      answer-cases (full n) i j (λ p a t. Guard i p j → ParticipantInRange n i p → ToInRange n i t)
       (record {
         none = λ p a g k. tt;
         vote-yes = λ g k. tt;
@@ -187,26 +187,26 @@ module _ (n : ℕ) where
   enters-range : (c : Coordinator) → CoordinatorInRange n c → CoordinatorToInRange n (Coordinator.enters c)
   enters-range c k = enters-cases (CoordinatorToInRange n) c k (λ q. tt) (λ q. tt)
 
-  full-range : (h : ℕ) (c : Coordinator) → h < 2 ^ n → (CoordinatorHeardInRange n h → CoordinatorInRange n c) → CoordinatorInRange n (Coordinator.unlessFull n h c)
+  full-range : (h : ℕ) (c : Coordinator) → h < 2 ^ n → (CoordinatorHeardInRange n h → CoordinatorInRange n c) → CoordinatorInRange n (Coordinator.unlessFull (full n) h c)
   full-range h c b f =
       cond-cases (CoordinatorInRange n) (eqb h (full n)) Coordinator.Commit c (λ t. tt) (λ t. f (record { below = b; part = eqb-false h (full n) t }))
 
-  pub replyYes-range : (i : ℕ) → i < n → (c : Coordinator) → CoordinatorInRange n c → CoordinatorToInRange n (Coordinator.onReplyYes n i c)
+  pub replyYes-range : (i : ℕ) → i < n → (c : Coordinator) → CoordinatorInRange n c → CoordinatorToInRange n (Coordinator.onReplyYes (full n) i c)
   replyYes-range i l c =
-      replyYes-cases (λ c t. CoordinatorInRange n c → CoordinatorToInRange n t) n i
-      (λ h k. enters-range (Coordinator.unlessFull n (insert i h) (Coordinator.Waiting (insert i h)))
+      replyYes-cases (λ c t. CoordinatorInRange n c → CoordinatorToInRange n t) (full n) i
+      (λ h k. enters-range (Coordinator.unlessFull (full n) (insert i h) (Coordinator.Waiting (insert i h)))
       (full-range (insert i h) (Coordinator.Waiting (insert i h)) (insert-lt n i h l (k .below)) (λ x. x))) (λ c k. k) c
 
   pub replyAbort-range : (c : Coordinator) → CoordinatorInRange n c → CoordinatorToInRange n (Coordinator.onReplyAbort c)
   replyAbort-range c = replyAbort-cases (λ c t. CoordinatorInRange n c → CoordinatorToInRange n t) (λ h k. tt) (λ c k. k) c
 
-  heard-range : (h : ℕ) (a : LogRecord) → h < 2 ^ n → CoordinatorToInRange n (Coordinator.onHeard n h a)
+  heard-range : (h : ℕ) (a : LogRecord) → h < 2 ^ n → CoordinatorToInRange n (Coordinator.onHeard (full n) h a)
   heard-range h None b = tt
-  heard-range h Yes b = enters-range (Coordinator.unlessFull n h (Coordinator.Terminating h)) (full-range h (Coordinator.Terminating h) b (λ x. x))
+  heard-range h Yes b = enters-range (Coordinator.unlessFull (full n) h (Coordinator.Terminating h)) (full-range h (Coordinator.Terminating h) b (λ x. x))
   heard-range h Abort b = tt
   heard-range h Commit b = tt
 
-  pub coordinator-answer-range : (c : Coordinator) (j : ℕ) (a : LogRecord) → j < n → CoordinatorInRange n c → CoordinatorToInRange n (Coordinator.onAnswer n c j a)
+  pub coordinator-answer-range : (c : Coordinator) (j : ℕ) (a : LogRecord) → j < n → CoordinatorInRange n c → CoordinatorToInRange n (Coordinator.onAnswer (full n) c j a)
   coordinator-answer-range c j a l =
-      coordinator-answer-cases (λ c t. CoordinatorInRange n c → CoordinatorToInRange n t) n j a (λ c k. tt)
+      coordinator-answer-cases (λ c t. CoordinatorInRange n c → CoordinatorToInRange n t) (full n) j a (λ c k. tt)
       (λ h k. heard-range (insert j h) a (insert-lt n j h l (k .below))) c

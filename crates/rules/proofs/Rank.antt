@@ -44,10 +44,10 @@ module _ (n i : ℕ) (lt : i < n) where
       let b = size-insert n j (insert i h) l (bit-of-has j (insert i h) g) in
       omega (arith, size-le n (insert j (insert i h)))
 
-  terminating-rank : (h k : ℕ) → 1 ≤ k → n - size n h ≤ k → rank n (Participant.terminating n i h) ≤ k
+  terminating-rank : (h k : ℕ) → 1 ≤ k → n - size n h ≤ k → rank n (Participant.terminating (full n) i h) ≤ k
   terminating-rank h k a b = cond-cases (λ p. rank n p ≤ k) (eqb (insert i h) (full n)) RecordingCommit (Terminating h) (λ t. a) (λ t. b)
 
-  unheard-rank : rank n (Participant.terminating n i 0) ≤ n
+  unheard-rank : rank n (Participant.terminating (full n) i 0) ≤ n
   unheard-rank = terminating-rank 0 n (omega arith) (omega arith)
 
   pub request-rank : (vote : Bool) (p : Participant) → rank n (Participant.onRequest vote p) ≤ rank n p
@@ -64,18 +64,18 @@ module _ (n i : ℕ) (lt : i < n) where
       decision-cases (λ p p′. Knows n F i p → rank n p′ ≤ rank n p) d (λ k. omega (arith, recording-rank d))
       (λ h k. omega (arith, recording-rank d, own-left F h k)) (λ p k. le-refl (rank n p)) p
 
-  pub timeout-rank : (p : Participant) → ((h : ℕ) → p ≡ Terminating h → ⊥) → Within n (rank n p) (Participant.onTimeout n i p)
+  pub timeout-rank : (p : Participant) → ((h : ℕ) → p ≡ Terminating h → ⊥) → Within n (rank n p) (Participant.onTimeout (full n) i p)
   timeout-rank p =
-      timeout-cases (λ p t. ((h : ℕ) → p ≡ Terminating h → ⊥) → Within n (rank n p) t) n i (λ f. le-refl (n + 1)) (λ f. unheard-rank) (λ h f. absurd (f h refl)) (λ p f. tt) p
+      timeout-cases (λ p t. ((h : ℕ) → p ≡ Terminating h → ⊥) → Within n (rank n p) t) (full n) i (λ f. le-refl (n + 1)) (λ f. unheard-rank) (λ h f. absurd (f h refl)) (λ p f. tt) p
 
   pub restart-rank : (p : Participant) → Within n (rank n p) (Participant.onRestart p)
   restart-rank p = restart-cases (λ p t. Within n (rank n p) t) (omega arith) (λ p. tt) p
 
   -- an answered call leaves one less
   pub answer-rank : (F : ℕ → LogRecord) (p : Participant) (j k : ℕ) (a : LogRecord) → j < n → Guard i p j → Knows n F i p → rank n p ≡ suc k
-      → Within n k (Participant.onAnswer n i p j a)
+      → Within n k (Participant.onAnswer (full n) i p j a)
   answer-rank F p j k a l =
-      answer-cases n i j (λ p a t. Guard i p j → Knows n F i p → rank n p ≡ suc k → Within n k t)
+      answer-cases (full n) i j (λ p a t. Guard i p j → Knows n F i p → rank n p ≡ suc k → Within n k t)
       (record {
         none = λ p a g s q. tt;
         vote-yes = λ g s q. omega arith;

@@ -123,7 +123,7 @@ receive-ranged r Message.Request i h b =
     to-ranged r i (Participant.onRequest (has i (r .votes)) (participantOf r i)) Sent.Nothing h b
     (request-range (r .n) i h (has i (r .votes)) (participantOf r i) (b .participants i h))
 receive-ranged r Message.ReplyYes i h b =
-    goes-ranged r (Coordinator.onReplyYes (r .n) i (r .coordinator)) b (replyYes-range (r .n) i h (r .coordinator) (b .coordinator))
+    goes-ranged r (Coordinator.onReplyYes (full (r .n)) i (r .coordinator)) b (replyYes-range (r .n) i h (r .coordinator) (b .coordinator))
 receive-ranged r Message.ReplyAbort i h b =
     goes-ranged r (Coordinator.onReplyAbort (r .coordinator)) b (replyAbort-range (r .n) (r .coordinator) (b .coordinator))
 receive-ranged r Message.Commit i h b =

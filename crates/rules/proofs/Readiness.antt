@@ -6,6 +6,7 @@ use Prim.Native.Nat.{ℕ, suc, _+_, _≤_, _<_}
 use native.Mathlib.Omega.{arith}
 use lib.Dec.{eqb}
 use borrow.Author.Tests.{eq-eqb}
+use Rattle.mask.specs.Mask.{full}
 use Rattle.store.specs.Log.{perform}
 use Rattle.participant.specs.Participant
 use Rattle.rules.specs.State.{participantOf, logOf, firstOf, lastOf}
@@ -22,7 +23,7 @@ use Rattle.rules.proofs.Due.{IsTo, participant-due, goes-due}
 
 abbrev AnswerDue : ℕ → ℕ → Participant → Performed → Type 0
 AnswerDue n i p Performed.Refused = ⊥
-AnswerDue n i p (Performed.Done x) = IsTo (Participant.onAnswer n i p i (x .answer))
+AnswerDue n i p (Performed.Done x) = IsTo (Participant.onAnswer (full n) i p i (x .answer))
 
 module _ (n : ℕ) (F : ℕ → LogRecord) (i : ℕ) where
   vote-due : (first last : LogRecord) → Allowed n F first last → last ≢ Commit → AnswerDue n i VotingYes (perform (Call.LogOnce Yes) (record { first = first; last = last }))
@@ -71,11 +72,11 @@ answered-due r i j x (To p s) h = participant-due i p s (called (suc i) j (x .lo
 
 performed-due : (r : Release) (i : ℕ) (s : Performed) → AnswerDue (r .n) i (participantOf r i) s → moves (participantPerformed true i i s r .outcome) ≡ true
 performed-due r i Performed.Refused h = absurd h
-performed-due r i (Performed.Done x) h = answered-due r i i x (Participant.onAnswer (r .n) i (participantOf r i) i (x .answer)) h
+performed-due r i (Performed.Done x) h = answered-due r i i x (Participant.onAnswer (full (r .n)) i (participantOf r i) i (x .answer)) h
 
 -- in state p
 abbrev ReadyIn : Release → ℕ → Participant → Type 0
-ReadyIn r i p = IsTo (Participant.onTimeout (r .n) i p) ⊎ AnswerDue (r .n) i p (perform (Participant.pending i p i) (logOf r i))
+ReadyIn r i p = IsTo (Participant.onTimeout (full (r .n)) i p) ⊎ AnswerDue (r .n) i p (perform (Participant.pending i p i) (logOf r i))
 
 abbrev pub Undecided : Participant → Type 0
 Undecided Waiting = Unit {0}
@@ -157,7 +158,7 @@ unfolding participantCalls
 ready r i l v u none = go (undecided-or-holds r i (participantOf r i) refl (v .ends i l) u)
   where
     due : ReadyIn r i (participantOf r i) → Ready r i
-    due (inl t) = inl (goes-due i (Participant.onTimeout (r .n) i (participantOf r i)) r t)
+    due (inl t) = inl (goes-due i (Participant.onTimeout (full (r .n)) i (participantOf r i)) r t)
     due (inr a) = inr (i, l, performed-due r i (perform (Participant.pending i (participantOf r i) i) (logOf r i)) a)
 
     go : Undecided (participantOf r i) ⊎ Holds r i → Ready r i

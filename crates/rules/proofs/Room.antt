@@ -3,6 +3,7 @@ use mathlib.Core.Path.{_≡_, refl, _∙_}
 use mathlib.Core.List.{List, [], _∷_}
 use Prim.Native.Nat.{ℕ, suc, _+_}
 use lib.ListN.{length, getD, length-set}
+use Rattle.mask.specs.Mask.{full}
 use Rattle.coordinator.specs.Coordinator
 use Rattle.rules.specs.State.{messagePlace}
 use Rattle.rules.specs.Step.{withMask, send, takeOut, sendAll, withParticipant, withCoordinator, called, participantTo, coordinatorTo, coordinatorGoes, receive, step}
@@ -50,7 +51,7 @@ goes-room (CoordinatorTransition.To c s) r = coordinator-room c s r
 
 receive-room : (m : Message) (i : ℕ) (r : Release) → SameRoom r (receive m i r .next)
 receive-room Message.Request i r = to-room i _ Sent.Nothing r
-receive-room Message.ReplyYes i r = goes-room (Coordinator.onReplyYes (r .n) i (r .coordinator)) r
+receive-room Message.ReplyYes i r = goes-room (Coordinator.onReplyYes (full (r .n)) i (r .coordinator)) r
 receive-room Message.ReplyAbort i r = goes-room (Coordinator.onReplyAbort (r .coordinator)) r
 receive-room Message.Commit i r = to-room i _ Sent.Nothing r
 receive-room Message.Abort i r = to-room i _ Sent.Nothing r

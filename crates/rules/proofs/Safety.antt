@@ -2,7 +2,7 @@
 use mathlib.Core.Path.{_≡_, refl, sym, _∙_, ap}
 use mathlib.Core.Bool.{Bool, true}
 use Prim.Native.Nat.{ℕ, suc, _<_}
-use Rattle.mask.specs.Mask.{has}
+use Rattle.mask.specs.Mask.{has, full}
 use Rattle.store.specs.Log.{perform}
 use Rattle.store.proofs.Laws.{perform-answers}
 use Rattle.participant.specs.Participant
@@ -50,7 +50,7 @@ module _ (r : Release) (i : ℕ) (h : i < r .n) (v : Inv r) where
   receive-good Message.Request t =
       stands-good (Participant.onRequest (has i (r .votes)) (participantOf r i)) (request-stands (r .n) (firstOf r) i (lastOf r i) (has i (r .votes)) (participantOf r i) stands)
   receive-good Message.ReplyYes t =
-      coordinator-goes-good r (Coordinator.onReplyYes (r .n) i (r .coordinator)) v (replyYes-fits (r .n) (firstOf r) i (r .coordinator) t (v .coordinator-knows))
+      coordinator-goes-good r (Coordinator.onReplyYes (full (r .n)) i (r .coordinator)) v (replyYes-fits (r .n) (firstOf r) i (r .coordinator) t (v .coordinator-knows))
   receive-good Message.ReplyAbort t =
       coordinator-goes-good r (Coordinator.onReplyAbort (r .coordinator)) v (replyAbort-fits (r .n) (firstOf r) (r .coordinator) t (v .coordinator-knows))
   receive-good Message.Commit t =
@@ -109,7 +109,7 @@ module _ (r : Release) (i j : ℕ) (x : Logged) (hi : i < r .n) (hj : j < r .n) 
   answer-last : x .answer ≡ x .log .last
   answer-last = rw q at (perform-answers (Participant.pending i (participantOf r i) j) (logOf r j))
 
-  call-fits : Fits (r .n) (firstOf left) i (lastOf left i) (Participant.onAnswer (r .n) i (participantOf r i) j (x .answer))
+  call-fits : Fits (r .n) (firstOf left) i (lastOf left i) (Participant.onAnswer (full (r .n)) i (participantOf r i) j (x .answer))
   call-fits =
       answer-fits (r .n) (firstOf left) i (lastOf left i) (participantOf r i) j (x .answer)
       (λ e. ap (λ (k : ℕ). lastOf left k) (sym e) ∙ ap (λ (l : LogPair). l .last) (called-at r (suc i) j (x .log) v hj) ∙ sym answer-last)
@@ -127,7 +127,7 @@ module _ (r : Release) (j : ℕ) (x : Logged) (hj : j < r .n) (v : Inv r)
   coordinator-answer-last : x .answer ≡ x .log .last
   coordinator-answer-last = rw q at (perform-answers (Coordinator.pending (r .coordinator) j) (logOf r j))
 
-  coordinator-call-fits : CoordinatorFits (r .n) (firstOf (called 0 j (x .log) r)) (Coordinator.onAnswer (r .n) (r .coordinator) j (x .answer))
+  coordinator-call-fits : CoordinatorFits (r .n) (firstOf (called 0 j (x .log) r)) (Coordinator.onAnswer (full (r .n)) (r .coordinator) j (x .answer))
   coordinator-call-fits =
       coordinator-answer-fits (r .n) (firstOf (called 0 j (x .log) r)) (r .coordinator) j (x .answer)
       (rw coordinator-answer-last (called-says r 0 j (x .log) v hj coordinator-change))

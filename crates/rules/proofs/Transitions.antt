@@ -31,13 +31,13 @@ module _ (n : ℕ) (F : ℕ → LogRecord) (i : ℕ) (e : LogRecord) where
   stands-closing : Stands n F i e Closing
   stands-closing = record { knows = tt; ends = tt }
 
-  stands-terminating : (h : ℕ) → F i ≡ Yes → has i h ≡ false → Heard n F h → Stands n F i e (Participant.terminating n i h)
+  stands-terminating : (h : ℕ) → F i ≡ Yes → has i h ≡ false → Heard n F h → Stands n F i e (Participant.terminating (full n) i h)
   stands-terminating h y o k =
       cond-cases (Stands n F i e) (eqb (insert i h) (full n)) RecordingCommit (Terminating h)
       (λ t. record { knows = heard-full (heard-insert i y k) (eqb-true (insert i h) (full n) t); ends = tt })
       (λ t. record { knows = record { own = y; others = o; heard = k }; ends = tt })
 
-  stands-unheard : F i ≡ Yes → Stands n F i e (Participant.terminating n i 0)
+  stands-unheard : F i ≡ Yes → Stands n F i e (Participant.terminating (full n) i 0)
   stands-unheard y = stands-terminating 0 y (has-zero i) (heard-none n F)
 
   stands-voted : (vote : Bool) → e ≢ Commit → Stands n F i e (cond vote VotingYes Closing)
@@ -58,9 +58,9 @@ module _ (n : ℕ) (F : ℕ → LogRecord) (i : ℕ) (e : LogRecord) where
   pub decision-stands : (d : Decision) → DecisionTells d → (p : Participant) → Stands n F i e p → Stands n F i e (Participant.onDecision d p)
   decision-stands d t p = decision-cases (λ p p′. Stands n F i e p → Stands n F i e p′) d (λ h. stands-recording d t (h .knows)) (λ m h. stands-recording d t (h .knows .own)) (λ p h. h) p
 
-  pub timeout-fits : (p : Participant) → Knows n F i p → Fits n F i e (Participant.onTimeout n i p)
+  pub timeout-fits : (p : Participant) → Knows n F i p → Fits n F i e (Participant.onTimeout (full n) i p)
   timeout-fits p =
-      timeout-cases (λ p t. Knows n F i p → Fits n F i e t) n i (λ k. (stands-closing, tt)) (λ k. (stands-unheard k, tt))
+      timeout-cases (λ p t. Knows n F i p → Fits n F i e t) (full n) i (λ k. (stands-closing, tt)) (λ k. (stands-unheard k, tt))
       (λ h k. (record { knows = record { own = k .own; others = has-zero i; heard = heard-none n F }; ends = tt }, tt)) (λ p k. tt) p
 
   pub crash-fits : (p : Participant) → Fits n F i e (Participant.onCrash p)
@@ -75,9 +75,9 @@ module _ (n : ℕ) (F : ℕ → LogRecord) (i : ℕ) (e : LogRecord) where
 
   -- where log j is one's own, its last record is e
   pub answer-fits : (p : Participant) (j : ℕ) (a : LogRecord) → (j ≡ i → e ≡ a) → Guard i p j → Says n F j a → Knows n F i p
-      → Fits n F i e (Participant.onAnswer n i p j a)
+      → Fits n F i e (Participant.onAnswer (full n) i p j a)
   answer-fits p j a =
-      answer-cases n i j (λ p a t. (j ≡ i → e ≡ a) → Guard i p j → Says n F j a → Knows n F i p → Fits n F i e t)
+      answer-cases (full n) i j (λ p a t. (j ≡ i → e ≡ a) → Guard i p j → Says n F j a → Knows n F i p → Fits n F i e t)
       (record {
         none = λ p a q g s k. tt;
         vote-yes = λ q g s k. (record { knows = own j Yes g s; ends = tt }, own j Yes g s);
@@ -111,17 +111,17 @@ module _ (n : ℕ) (F : ℕ → LogRecord) where
       (λ q. let y : EveryYes n F = rw q at k in (y, λ i l. y))
       (λ q. let a : SomeAbort n F = rw q at k in (a, λ i l. a))
 
-  full-knows : (h : ℕ) (c : Coordinator) → CoordinatorKnows n F c → Heard n F h → CoordinatorKnows n F (Coordinator.unlessFull n h c)
+  full-knows : (h : ℕ) (c : Coordinator) → CoordinatorKnows n F c → Heard n F h → CoordinatorKnows n F (Coordinator.unlessFull (full n) h c)
   full-knows h c k m =
       cond-cases (CoordinatorKnows n F) (eqb h (full n)) Coordinator.Commit c (λ t. heard-full m (eqb-true h (full n) t)) (λ t. k)
 
   pub start-fits : (c : Coordinator) → CoordinatorFits n F (Coordinator.onStart c)
   start-fits c = start-cases (CoordinatorFits n F) (heard-none n F, λ i l. tt) tt c
 
-  pub replyYes-fits : (i : ℕ) (c : Coordinator) → F i ≡ Yes → CoordinatorKnows n F c → CoordinatorFits n F (Coordinator.onReplyYes n i c)
+  pub replyYes-fits : (i : ℕ) (c : Coordinator) → F i ≡ Yes → CoordinatorKnows n F c → CoordinatorFits n F (Coordinator.onReplyYes (full n) i c)
   replyYes-fits i c y =
-      replyYes-cases (λ c t. CoordinatorKnows n F c → CoordinatorFits n F t) n i
-      (λ h k. enters-fits (Coordinator.unlessFull n (insert i h) (Coordinator.Waiting (insert i h)))
+      replyYes-cases (λ c t. CoordinatorKnows n F c → CoordinatorFits n F t) (full n) i
+      (λ h k. enters-fits (Coordinator.unlessFull (full n) (insert i h) (Coordinator.Waiting (insert i h)))
       (full-knows (insert i h) (Coordinator.Waiting (insert i h)) (heard-insert i y k) (heard-insert i y k))) to-fits c
 
   pub replyAbort-fits : (c : Coordinator) → SomeAbort n F → CoordinatorKnows n F c → CoordinatorFits n F (Coordinator.onReplyAbort c)
@@ -136,14 +136,14 @@ module _ (n : ℕ) (F : ℕ → LogRecord) where
   pub coordinator-restart-fits : (c : Coordinator) → CoordinatorFits n F (Coordinator.onRestart c)
   coordinator-restart-fits c = coordinator-restart-cases (CoordinatorFits n F) (to-fits Coordinator.Retired tt) tt c
 
-  heard-fits : (j h : ℕ) (a : LogRecord) → Says n F j a → Heard n F h → CoordinatorFits n F (Coordinator.onHeard n (insert j h) a)
+  heard-fits : (j h : ℕ) (a : LogRecord) → Says n F j a → Heard n F h → CoordinatorFits n F (Coordinator.onHeard (full n) (insert j h) a)
   heard-fits j h None s k = tt
   heard-fits j h Yes s k =
-      enters-fits (Coordinator.unlessFull n (insert j h) (Coordinator.Terminating (insert j h)))
+      enters-fits (Coordinator.unlessFull (full n) (insert j h) (Coordinator.Terminating (insert j h)))
       (full-knows (insert j h) (Coordinator.Terminating (insert j h)) (heard-insert j s k) (heard-insert j s k))
   heard-fits j h Abort s k = enters-fits Coordinator.Abort s
   heard-fits j h Commit s k = enters-fits Coordinator.Commit s
 
-  pub coordinator-answer-fits : (c : Coordinator) (j : ℕ) (a : LogRecord) → Says n F j a → CoordinatorKnows n F c → CoordinatorFits n F (Coordinator.onAnswer n c j a)
+  pub coordinator-answer-fits : (c : Coordinator) (j : ℕ) (a : LogRecord) → Says n F j a → CoordinatorKnows n F c → CoordinatorFits n F (Coordinator.onAnswer (full n) c j a)
   coordinator-answer-fits c j a s =
-      coordinator-answer-cases (λ c t. CoordinatorKnows n F c → CoordinatorFits n F t) n j a (λ c k. tt) (λ h k. heard-fits j h a s k) c
+      coordinator-answer-cases (λ c t. CoordinatorKnows n F c → CoordinatorFits n F t) (full n) j a (λ c k. tt) (λ h k. heard-fits j h a s k) c

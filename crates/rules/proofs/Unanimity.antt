@@ -117,9 +117,9 @@ recording-willing Decision.Abort = tt
 decision-willing : (d : Decision) (p : Participant) → Willing p → Willing (Participant.onDecision d p)
 decision-willing d p = decision-cases (λ p p′. Willing p → Willing p′) d (λ w. recording-willing d) (λ h w. absurd w) (λ p w. w) p
 
-answer-willing : (n i : ℕ) (p : Participant) (j : ℕ) (a : LogRecord) → Willing p → WillingTo (Participant.onAnswer n i p j a)
-answer-willing n i p j a =
-    answer-cases n i j (λ p a t. Willing p → WillingTo t)
+answer-willing : (all i : ℕ) (p : Participant) (j : ℕ) (a : LogRecord) → Willing p → WillingTo (Participant.onAnswer all i p j a)
+answer-willing all i p j a =
+    answer-cases all i j (λ p a t. Willing p → WillingTo t)
     (record {
       none = λ p a w. tt;
       vote-yes = λ w. tt;
@@ -138,11 +138,11 @@ answer-willing n i p j a =
 enters-willing : (c : Coordinator) → CoordinatorWilling c → CoordinatorWillingTo (Coordinator.enters c)
 enters-willing c w = enters-cases CoordinatorWillingTo c w (λ q. tt) (λ q. tt)
 
-replyYes-willing : (n i : ℕ) (c : Coordinator) → CoordinatorWilling c → CoordinatorWillingTo (Coordinator.onReplyYes n i c)
-replyYes-willing n i c =
-    replyYes-cases (λ c t. CoordinatorWilling c → CoordinatorWillingTo t) n i
-    (λ h w. enters-willing (Coordinator.unlessFull n (insert i h) (Coordinator.Waiting (insert i h)))
-    (cond-cases CoordinatorWilling (eqb (insert i h) (full n)) Coordinator.Commit (Coordinator.Waiting (insert i h)) (λ t. tt) (λ t. tt))) (λ c w. w) c
+replyYes-willing : (all i : ℕ) (c : Coordinator) → CoordinatorWilling c → CoordinatorWillingTo (Coordinator.onReplyYes all i c)
+replyYes-willing all i c =
+    replyYes-cases (λ c t. CoordinatorWilling c → CoordinatorWillingTo t) all i
+    (λ h w. enters-willing (Coordinator.unlessFull all (insert i h) (Coordinator.Waiting (insert i h)))
+    (cond-cases CoordinatorWilling (eqb (insert i h) all) Coordinator.Commit (Coordinator.Waiting (insert i h)) (λ t. tt) (λ t. tt))) (λ c w. w) c
 
 replyAbort-willing : (c : Coordinator) → CoordinatorWilling c → CoordinatorWillingTo (Coordinator.onReplyAbort c)
 replyAbort-willing c = replyAbort-cases (λ c t. CoordinatorWilling c → CoordinatorWillingTo t) (λ h w. tt) (λ c w. w) c
@@ -191,7 +191,7 @@ receive-unanimous r Message.Request i h u =
     to-unanimous r i (Participant.onRequest (has i (r .votes)) (participantOf r i)) Sent.Nothing u
     (request-willing (has i (r .votes)) (rw (u .all-yes) (has-full i (r .n) h)) (participantOf r i) (u .willing i h))
 receive-unanimous r Message.ReplyYes i h u =
-    goes-unanimous r (Coordinator.onReplyYes (r .n) i (r .coordinator)) u (replyYes-willing (r .n) i (r .coordinator) (u .coordinator-willing))
+    goes-unanimous r (Coordinator.onReplyYes (full (r .n)) i (r .coordinator)) u (replyYes-willing (full (r .n)) i (r .coordinator) (u .coordinator-willing))
 receive-unanimous r Message.ReplyAbort i h u =
     goes-unanimous r (Coordinator.onReplyAbort (r .coordinator)) u (replyAbort-willing (r .coordinator) (u .coordinator-willing))
 receive-unanimous r Message.Commit i h u =
@@ -205,7 +205,7 @@ call-unanimous : (r : Release) (i j : ℕ) (l : Logged) (p : Participant) (x : S
     → Unanimous (called (suc i) j (l .log) r) × Willing p
 call-unanimous r i j l p x hi hj a u = (
   called-unanimous r (suc i) j (l .log) u (rw (a .done) at (perform-first NotAbort (Participant.pending i (participantOf r i) j) (logOf r j) (pending-willing i (participantOf r i) j (u .willing i hi)) (u .no-abort j hj))),
-  rw (a .answer) at (answer-willing (r .n) i (participantOf r i) j (l .answer) (u .willing i hi)),
+  rw (a .answer) at (answer-willing (full (r .n)) i (participantOf r i) j (l .answer) (u .willing i hi)),
 )
 
 no-call : (r : Release) (j : ℕ) (l : Logged) (c : Coordinator) (x : Sent) → CoordinatorCall r j l c x → Unanimous r → ⊥

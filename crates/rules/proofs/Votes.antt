@@ -83,20 +83,20 @@ decision-asked : (vote : Bool) (d : Decision) (p : Participant) → Asked vote p
 decision-asked vote d p =
     decision-cases (λ p p′. Asked vote p → Asked vote p′) d (λ a. recording-asked vote d) (λ h a. recording-asked vote d) (λ p a. a) p
 
-terminating-asked : (vote : Bool) (n i h : ℕ) → Asked vote (Participant.terminating n i h)
-terminating-asked vote n i h = cond-cases (Asked vote) (eqb (insert i h) (full n)) RecordingCommit (Terminating h) (λ t. tt) (λ t. tt)
+terminating-asked : (vote : Bool) (all i h : ℕ) → Asked vote (Participant.terminating all i h)
+terminating-asked vote all i h = cond-cases (Asked vote) (eqb (insert i h) all) RecordingCommit (Terminating h) (λ t. tt) (λ t. tt)
 
-answer-asked : (vote : Bool) (n i : ℕ) (p : Participant) (j : ℕ) (a : LogRecord) → AskedTo vote (Participant.onAnswer n i p j a)
-answer-asked vote n i p j a =
-    answer-cases n i j (λ p a t. AskedTo vote t)
+answer-asked : (vote : Bool) (all i : ℕ) (p : Participant) (j : ℕ) (a : LogRecord) → AskedTo vote (Participant.onAnswer all i p j a)
+answer-asked vote all i p j a =
+    answer-cases all i j (λ p a t. AskedTo vote t)
     (record {
       none = λ p a. tt;
       vote-yes = tt;
       vote-abort = tt;
-      close-yes = terminating-asked vote n i 0;
+      close-yes = terminating-asked vote all i 0;
       close-abort = tt;
       close-commit = tt;
-      hear-yes = λ h. terminating-asked vote n i (insert j h);
+      hear-yes = λ h. terminating-asked vote all i (insert j h);
       hear-abort = λ h. tt;
       hear-commit = λ h. tt;
       record-commit = tt;
@@ -104,8 +104,8 @@ answer-asked vote n i p j a =
     })
     p a
 
-timeout-asked : (vote : Bool) (n i : ℕ) (p : Participant) → AskedTo vote (Participant.onTimeout n i p)
-timeout-asked vote n i p = timeout-cases (λ p t. AskedTo vote t) n i tt (terminating-asked vote n i 0) (λ h. tt) (λ p. tt) p
+timeout-asked : (vote : Bool) (all i : ℕ) (p : Participant) → AskedTo vote (Participant.onTimeout all i p)
+timeout-asked vote all i p = timeout-cases (λ p t. AskedTo vote t) all i tt (terminating-asked vote all i 0) (λ h. tt) (λ p. tt) p
 
 -- the calls: only a participant that is to vote yes writes a yes, to its own log
 
@@ -154,7 +154,7 @@ goes-voted r (CoordinatorTransition.To c s) v = coordinator-voted r c s v
 
 receive-voted : (r : Release) (m : Message) (i : ℕ) → Voted r → Voted (receive m i r .next)
 receive-voted r Message.Request i v = to-voted r i _ Sent.Nothing v (request-asked (has i (r .votes)) (participantOf r i) (v .asked i))
-receive-voted r Message.ReplyYes i v = goes-voted r (Coordinator.onReplyYes (r .n) i (r .coordinator)) v
+receive-voted r Message.ReplyYes i v = goes-voted r (Coordinator.onReplyYes (full (r .n)) i (r .coordinator)) v
 receive-voted r Message.ReplyAbort i v = goes-voted r (Coordinator.onReplyAbort (r .coordinator)) v
 receive-voted r Message.Commit i v = to-voted r i _ Sent.Nothing v (decision-asked (has i (r .votes)) Decision.Commit (participantOf r i) (v .asked i))
 receive-voted r Message.Abort i v = to-voted r i _ Sent.Nothing v (decision-asked (has i (r .votes)) Decision.Abort (participantOf r i) (v .asked i))
@@ -166,11 +166,11 @@ caused-voted r (delivers {m} {i} b) v = receive-voted (takeOut m i r) m i v
 caused-voted r (copies {m} {i} b) v = receive-voted r m i v
 caused-voted r loses v = v
 caused-voted r (answered {i} {j} {l} {p} {x} a) v =
-    to-voted (called (suc i) j (l .log) r) i p x (call-voted r i j l p x a v) (rw (a .answer) at (answer-asked (has i (r .votes)) (r .n) i (participantOf r i) j (l .answer)))
+    to-voted (called (suc i) j (l .log) r) i p x (call-voted r i j l p x a v) (rw (a .answer) at (answer-asked (has i (r .votes)) (full (r .n)) i (participantOf r i) j (l .answer)))
 caused-voted r (lost {i} {j} {l} {p} {x} a) v = call-voted r i j l p x a v
 caused-voted r (coordinator-answered {j} {l} {c} {x} a) v = coordinator-voted (called 0 j (l .log) r) c x (coordinator-call-voted r j l c x a v)
 caused-voted r (coordinator-lost {j} {l} {c} {x} a) v = coordinator-call-voted r j l c x a v
-caused-voted r (times-out {i} {p} {x} q) v = to-voted r i p x v (rw q at (timeout-asked (has i (r .votes)) (r .n) i (participantOf r i)))
+caused-voted r (times-out {i} {p} {x} q) v = to-voted r i p x v (rw q at (timeout-asked (has i (r .votes)) (full (r .n)) i (participantOf r i)))
 caused-voted r (crashes {i} {p} {x} q) v = to-voted r i p x v (rw q at (crash-cases (λ p t. AskedTo (has i (r .votes)) t) (λ p. tt) tt (participantOf r i)))
 caused-voted r (restarts {i} {p} {x} q) v = to-voted r i p x v (rw q at (restart-cases (λ p t. AskedTo (has i (r .votes)) t) tt (λ p. tt) (participantOf r i)))
 caused-voted r (coordinator-times-out {c} {x} q) v = coordinator-voted r c x v

@@ -6,7 +6,7 @@ use mathlib.Core.Logic.{_≢_, _⊎_}
 use mathlib.Core.Bool.{true, false}
 use Prim.Native.Nat.{ℕ, zero, suc, _+_, _≤_, _<_}
 use lib.ListN.{length}
-use Rattle.mask.specs.Mask.{has}
+use Rattle.mask.specs.Mask.{has, full}
 use Rattle.store.specs.Log.{perform}
 use Rattle.participant.specs.Participant
 use Rattle.coordinator.specs.Coordinator
@@ -117,7 +117,7 @@ pub record GoesByRule (r : Release) : Type 0 where
   pub request : (i : ℕ) → inFlight r Message.Request i ≡ true
       → ParticipantGoesTo i (Participant.onRequest (has i (r .votes)) (participantOf r i)) Sent.Nothing r (step r (Copy Message.Request (suc i)) .next)
   pub reply-yes : (i : ℕ) (c : Coordinator) (x : Sent) → inFlight r Message.ReplyYes i ≡ true
-      → Coordinator.onReplyYes (r .n) i (r .coordinator) ≡ CoordinatorTransition.To c x → CoordinatorGoesTo c x r (step r (Copy Message.ReplyYes (suc i)) .next)
+      → Coordinator.onReplyYes (full (r .n)) i (r .coordinator) ≡ CoordinatorTransition.To c x → CoordinatorGoesTo c x r (step r (Copy Message.ReplyYes (suc i)) .next)
   pub reply-abort : (i : ℕ) (c : Coordinator) (x : Sent) → inFlight r Message.ReplyAbort i ≡ true
       → Coordinator.onReplyAbort (r .coordinator) ≡ CoordinatorTransition.To c x → CoordinatorGoesTo c x r (step r (Copy Message.ReplyAbort (suc i)) .next)
   pub commit : (i : ℕ) → inFlight r Message.Commit i ≡ true
@@ -125,10 +125,10 @@ pub record GoesByRule (r : Release) : Type 0 where
   pub abort : (i : ℕ) → inFlight r Message.Abort i ≡ true
       → ParticipantGoesTo i (Participant.onDecision Decision.Abort (participantOf r i)) Sent.Nothing r (step r (Copy Message.Abort (suc i)) .next)
   pub answer : (i j : ℕ) (l : Logged) (p : Participant) (x : Sent) → perform (pendingCall r (suc i) j) (logOf r j) ≡ Performed.Done l
-      → Participant.onAnswer (r .n) i (participantOf r i) j (l .answer) ≡ To p x → ParticipantGoesTo i p x r (step r (Step.Call (suc i) (suc j)) .next)
+      → Participant.onAnswer (full (r .n)) i (participantOf r i) j (l .answer) ≡ To p x → ParticipantGoesTo i p x r (step r (Step.Call (suc i) (suc j)) .next)
   pub coordinator-answer : (j : ℕ) (l : Logged) (c : Coordinator) (x : Sent) → perform (pendingCall r 0 j) (logOf r j) ≡ Performed.Done l
-      → Coordinator.onAnswer (r .n) (r .coordinator) j (l .answer) ≡ CoordinatorTransition.To c x → CoordinatorGoesTo c x r (step r (Step.Call 0 (suc j)) .next)
-  pub timeout : (i : ℕ) (p : Participant) (x : Sent) → Participant.onTimeout (r .n) i (participantOf r i) ≡ To p x
+      → Coordinator.onAnswer (full (r .n)) (r .coordinator) j (l .answer) ≡ CoordinatorTransition.To c x → CoordinatorGoesTo c x r (step r (Step.Call 0 (suc j)) .next)
+  pub timeout : (i : ℕ) (p : Participant) (x : Sent) → Participant.onTimeout (full (r .n)) i (participantOf r i) ≡ To p x
       → ParticipantGoesTo i p x r (step r (Timeout (suc i)) .next)
   pub coordinator-timeout : (c : Coordinator) (x : Sent) → Coordinator.onTimeout (r .coordinator) ≡ CoordinatorTransition.To c x
       → CoordinatorGoesTo c x r (step r (Timeout 0) .next)

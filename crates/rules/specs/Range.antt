@@ -7,7 +7,7 @@ use mathlib.Core.List.{List, _++_}
 use Prim.Native.Nat.{ℕ, _≤_, _<_}
 use lib.ListN.{getD}
 use Rattle.kind.specs.Step.{AllInRange}
-use Rattle.mask.specs.Mask.{within}
+use Rattle.mask.specs.Mask.{within, full}
 use Rattle.store.specs.Log.{empty, isAllowed}
 use Rattle.participant.specs.Participant
 use Rattle.coordinator.specs.Coordinator
@@ -19,9 +19,9 @@ use Rattle.rules.specs.Types.{None, Abort, Commit, Message, Waiting, Rel
 pub record ReleaseInRange (r : Release) : Type 0 where
   pub positive : 1 ≤ r .n
   pub votes : within (r .n) (r .votes) ≡ true
-  pub coordinator : Coordinator.inRange (r .n) (r .coordinator) ≡ true
+  pub coordinator : Coordinator.inRange (full (r .n)) (r .coordinator) ≡ true
   pub messages : (m : Message) → within (r .n) (maskOf r m) ≡ true
-  pub participants : (i : ℕ) → i < r .n → Participant.inRange (r .n) i (participantOf r i) ≡ true
+  pub participants : (i : ℕ) → i < r .n → Participant.inRange (full (r .n)) i (participantOf r i) ≡ true
   pub logs : (j : ℕ) → j < r .n → isAllowed (logOf r j) ≡ true
   pub participants-beyond : (i : ℕ) → r .n ≤ i → participantOf r i ≡ Waiting
   pub logs-beyond : (j : ℕ) → r .n ≤ j → logOf r j ≡ empty

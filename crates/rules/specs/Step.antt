@@ -73,7 +73,7 @@ coordinatorGoes (CoordinatorTransition.To c s) r = coordinatorTo c s r
 
 abbrev pub receive : Message → ℕ → Release → Report
 receive Message.Request i r = participantTo i (Participant.onRequest (has i (r .votes)) (participantOf r i)) Sent.Nothing r
-receive Message.ReplyYes i r = coordinatorGoes (Coordinator.onReplyYes (r .n) i (r .coordinator)) r
+receive Message.ReplyYes i r = coordinatorGoes (Coordinator.onReplyYes (full (r .n)) i (r .coordinator)) r
 receive Message.ReplyAbort i r = coordinatorGoes (Coordinator.onReplyAbort (r .coordinator)) r
 receive Message.Commit i r = participantTo i (Participant.onDecision Decision.Commit (participantOf r i)) Sent.Nothing r
 receive Message.Abort i r = participantTo i (Participant.onDecision Decision.Abort (participantOf r i)) Sent.Nothing r
@@ -102,7 +102,7 @@ participantAnswered false i j x (To p s) r = withClosed (closes (suc i) j x) (mo
 abbrev pub participantPerformed : Bool → ℕ → ℕ → Performed → Release → Report
 participantPerformed heard i j Performed.Refused r = idle r
 participantPerformed heard i j (Performed.Done x) r =
-    participantAnswered heard i j x (Participant.onAnswer (r .n) i (participantOf r i) j (x .answer)) r
+    participantAnswered heard i j x (Participant.onAnswer (full (r .n)) i (participantOf r i) j (x .answer)) r
 
 unfoldable pub participantCalls : Bool → ℕ → ℕ → Release → Report
 participantCalls heard i j r = participantPerformed heard i j (perform (Participant.pending i (participantOf r i) j) (logOf r j)) r
@@ -115,7 +115,7 @@ coordinatorAnswered false j x (CoordinatorTransition.To c s) r = withClosed (clo
 abbrev pub coordinatorPerformed : Bool → ℕ → Performed → Release → Report
 coordinatorPerformed heard j Performed.Refused r = idle r
 coordinatorPerformed heard j (Performed.Done x) r =
-    coordinatorAnswered heard j x (Coordinator.onAnswer (r .n) (r .coordinator) j (x .answer)) r
+    coordinatorAnswered heard j x (Coordinator.onAnswer (full (r .n)) (r .coordinator) j (x .answer)) r
 
 unfoldable pub coordinatorCalls : Bool → ℕ → Release → Report
 coordinatorCalls heard j r = coordinatorPerformed heard j (perform (Coordinator.pending (r .coordinator) j) (logOf r j)) r
@@ -139,7 +139,7 @@ step r (Lose m (suc i)) = cond (inFlight r m i) (moved (takeOut m i r)) (idle r)
 step r (Step.Call p q) = calls true p q r
 step r (Step.CallLost p q) = calls false p q r
 step r (Timeout zero) = coordinatorGoes (Coordinator.onTimeout (r .coordinator)) r
-step r (Timeout (suc i)) = participantGoes i (Participant.onTimeout (r .n) i (participantOf r i)) r
+step r (Timeout (suc i)) = participantGoes i (Participant.onTimeout (full (r .n)) i (participantOf r i)) r
 step r (Crash zero) = coordinatorGoes (Coordinator.onCrash (r .coordinator)) r
 step r (Crash (suc i)) = participantGoes i (Participant.onCrash (participantOf r i)) r
 step r (Restart zero) = coordinatorGoes (Coordinator.onRestart (r .coordinator)) r

@@ -1,5 +1,5 @@
--- Worked inputs: whole schedules, document 01's P7 to P12 among them, and one record after a header. One theorem covers each table.
--- Assumes nothing.
+-- Worked inputs: whole schedules, document 01's P7 to P12 among them, one record after a header, and the mask that goes with a header. One theorem covers each
+-- table. Assumes nothing.
 use mathlib.Core.Path.{_≡_, refl, ap}
 use mathlib.Core.Bool.{Bool, true, _&&_}
 use mathlib.Core.List.{List, [], _∷_, map}
@@ -11,6 +11,7 @@ use Rattle.number.specs.Refusal.{Handed, hands, accepted}
 use Rattle.kind.specs.Step.{AllInRange}
 use Rattle.schedule.specs.Types.{Kind, Step, Header, Before}
 use Rattle.schedule.specs.Reader.{ReadHanded, readerHands}
+use Rattle.schedule.specs.Context.{allOf}
 use Rattle.schedule.specs.Schedule.{Reading, Accepted, Refused, stepsFrom, readSchedule, stepsBytes, scheduleBytes}
 use Rattle.schedule.specs.RoundTrip.{too-long}
 use Rattle.schedule.proofs.RoundTrip.{steps-kept, first-refusal}
@@ -166,3 +167,32 @@ reads =
 
 reads-hold : map (λ c. readerHands (c .bytes) (c .told)) reads ≡ map (λ c. c .handed) reads
 reads-hold = refl
+
+-- Request 2026-05: the mask that is handed on with a header, which is that of its n, and 0 where the header is out of range
+
+record MaskCase : Type 0 where
+  header : Header
+  mask : ℕ
+
+abbrev gives : Kind → ℕ → ℕ → ℕ → MaskCase
+gives kind n votes mask = record { header = record { kind = kind; n = n; votes = votes }; mask = mask }
+
+abbrev masks : List MaskCase
+masks =
+    gives Kind.Header 1 0 1
+    ∷ gives Kind.Header 2 3 3
+    ∷ gives Kind.Header 8 0 255
+    ∷ gives Kind.WideHeader 9 1 511
+    ∷ gives Kind.WideHeader 31 0 2147483647
+    ∷ gives Kind.WideHeader 32 4294967295 4294967295
+    -- n 0 and beyond the room of the kind, a vote beyond n, a step's kind
+    ∷ gives Kind.Header 0 0 0
+    ∷ gives Kind.Header 9 0 0
+    ∷ gives Kind.WideHeader 33 0 0
+    ∷ gives Kind.WideHeader 4294967295 0 0
+    ∷ gives Kind.Header 2 4 0
+    ∷ gives Kind.Start 1 0 0
+    ∷ []
+
+masks-hold : map (λ c. allOf (c .header)) masks ≡ map (λ c. c .mask) masks
+masks-hold = refl

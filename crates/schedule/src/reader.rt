@@ -1,4 +1,5 @@
 // The reader: the record that some bytes begin with. It is told the header that came before, or none.
+use super::Context;
 use super::Header;
 use super::Record;
 use kind::Kind;
@@ -15,8 +16,9 @@ ghost use Prim.Native.Nat.{_+_, _≤_, _<_};
 ghost use lib.ListN.{length, getD, drop};
 ghost use Rattle.number.specs.Low.{lowNumber};
 ghost use Rattle.kind.specs.Kind.{bodyLength};
-ghost use Rattle.schedule.specs.Reader.{recordAt, inRangeAfter, ranged, readerAnswers, readHands, readerHands, stepAt, lengthAt};
+ghost use Rattle.schedule.specs.Reader.{recordAt, ranged, readerAnswers, readHands, readerHands, stepAt, lengthAt};
 ghost use Rattle.schedule.specs.Found.{kindAt};
+ghost use Rattle.schedule.specs.Context.{firstOf, firstRead, rangedHeader, inRangeWith, readWith};
 ghost use Rattle.schedule.specs.declared.reader.Before.{Before};
 
 // The header that came before a record, or none.
@@ -39,6 +41,28 @@ impl Read {
         match self {
             Read::Record(_, _) => 0,
             Read::Refused(k, _) => k,
+        }
+    }
+}
+
+// What a schedule begins with: its header, with the mask of all participants; or a refusal's number.
+pub enum First {
+    Header(Context),
+    Refused(u32),
+}
+
+impl First {
+    // As the answer to its first record.
+    fn read(self) -> Read
+        ensures { λ x. ⌜ x ≡ firstRead self ⌝ }
+    {
+        match self {
+            First::Header(c) => {
+                let header = c.header;
+                let r = header.as_record();
+                Read::Record(r, r.length())
+            }
+            First::Refused(k) => Read::Refused(k, 0),
         }
     }
 }
@@ -117,33 +141,49 @@ fn ranged(r: Record, good: bool) -> Read
     }
 }
 
-// The first record: a header, of either kind, comes first.
-pub fn read_header(bytes: &[u8]) -> Read
-    ensures { λ x. ⌜ x ≡ readerAnswers (now (bytes .entry)) Before.Nothing ⌝ }
+// A header in its place: 5.
+fn ranged_header(c: Context) -> First
+    ensures { λ x. ⌜ x ≡ rangedHeader c ⌝ }
+{
+    if c.in_range() {
+        First::Header(c)
+    } else {
+        First::Refused(OUT_OF_RANGE)
+    }
+}
+
+// The first record: a header, of either kind, comes first. Its mask is worked out here, for all records and steps under it.
+pub fn read_header(bytes: &[u8]) -> First
+    ensures { λ x. ⌜ x ≡ firstOf (readerAnswers (now (bytes .entry)) Before.Nothing) ⌝ }
 {
     match kind_at(bytes) {
-        Found::Refused(k) => Read::Refused(k, 0),
+        Found::Refused(k) => First::Refused(k),
         Found::Known(kind) => {
             if kind.is_header() {
-                let r = record_at(bytes, kind);
-                ranged(r, r.header().in_range())
+                ranged_header(record_at(bytes, kind).header().context())
             } else {
-                Read::Refused(HEADER_MISPLACED, 0)
+                First::Refused(HEADER_MISPLACED)
             }
         }
     }
 }
 
-// Whether the header has the record's numbers in range. A header that is out of range itself is not trusted.
-fn in_range_under(h: Header, r: Record) -> bool
-    ensures { λ b. ⌜ b ≡ inRangeAfter (Before.Header h) r ⌝ }
+// Whether a step's record is in range under a header, with the mask that was handed on. A header that is out of range itself is not trusted: its mask
+// has nobody.
+fn in_range_with(c: Context, r: Record) -> bool
+    ensures { λ b. ⌜ b ≡ inRangeWith c r ⌝ }
 {
-    if h.in_range() { r.in_range(h.n) } else { false }
+    if c.in_range() {} else {
+        return false;
+    }
+    let header = c.header;
+    let kind = r.kind;
+    kind.numbers_in_range(header.n, r.first, r.second)
 }
 
-// A record after the header: no further one follows.
-pub fn read_step(bytes: &[u8], h: Header) -> Read
-    ensures { λ x. ⌜ x ≡ readerAnswers (now (bytes .entry)) (Before.Header h) ⌝ }
+// A record after the header, with the mask that was handed on: no further header follows.
+pub fn read_step(bytes: &[u8], c: Context) -> Read
+    ensures { λ x. ⌜ x ≡ readWith (now (bytes .entry)) c ⌝ }
 {
     match kind_at(bytes) {
         Found::Refused(k) => Read::Refused(k, 0),
@@ -152,7 +192,7 @@ pub fn read_step(bytes: &[u8], h: Header) -> Read
                 Read::Refused(HEADER_MISPLACED, 0)
             } else {
                 let r = record_at(bytes, kind);
-                ranged(r, in_range_under(h, r))
+                ranged(r, in_range_with(c, r))
             }
         }
     }
@@ -163,8 +203,8 @@ pub fn read_record(bytes: &[u8], before: Before) -> Read
     ensures { λ x. ⌜ (x ≡ readerAnswers (now (bytes .entry)) before) × (readHands x ≡ readerHands (now (bytes .entry)) before) ⌝ }
 {
     match before {
-        Before::Nothing => read_header(bytes),
-        Before::Header(h) => read_step(bytes, h),
+        Before::Nothing => read_header(bytes).read(),
+        Before::Header(h) => read_step(bytes, h.context()),
     }
 }
 

@@ -54,9 +54,9 @@ module _ (refusal : ℕ) (h : Header) (bytes : List ℕ) where
   other-header g e = rw e refl
 
 -- what is read after a start is read from its tail
-pub start-read : (tail : List ℕ) (s : Start) → StartOf Kind.WideHeader tail s → (bytes : List ℕ) → readUnder (s .refusal) (s .header) bytes ≡ readFrom tail bytes
-start-read tail s x bytes = ap (λ k. readUnder k (s .header) bytes) (x .refusal) ∙ go (eqb (tailRefusal Kind.WideHeader tail) accepted) refl
+pub start-read : (tail : List ℕ) (s : Start) → StartOf Kind.WideHeader tail s → (bytes : List ℕ) → readUnder (s .refusal) (s .context .header) bytes ≡ readFrom tail bytes
+start-read tail s x bytes = ap (λ k. readUnder k (s .context .header) bytes) (x .refusal) ∙ go (eqb (tailRefusal Kind.WideHeader tail) accepted) refl
   where
-    go : (b : Bool) → eqb (tailRefusal Kind.WideHeader tail) accepted ≡ b → readUnder (tailRefusal Kind.WideHeader tail) (s .header) bytes ≡ readFrom tail bytes
+    go : (b : Bool) → eqb (tailRefusal Kind.WideHeader tail) accepted ≡ b → readUnder (tailRefusal Kind.WideHeader tail) (s .context .header) bytes ≡ readFrom tail bytes
     go true e = ap (λ (h : Header). readUnder (tailRefusal Kind.WideHeader tail) h bytes) (x .header (eqb-true (tailRefusal Kind.WideHeader tail) accepted e))
-    go false e = other-header (tailRefusal Kind.WideHeader tail) (s .header) bytes (startHeader tail) e
+    go false e = other-header (tailRefusal Kind.WideHeader tail) (s .context .header) bytes (startHeader tail) e

@@ -8,11 +8,13 @@ use lib.Dec.{eqb, ltb}
 use lib.ListN.{length}
 use Rattle.number.specs.Refusal.{accepted, emptyOrTooLong, outOfRange, wrongLength}
 use Rattle.schedule.specs.Record.{longest}
+use Rattle.schedule.specs.Context.{contextOf}
 use Rattle.schedule.specs.Schedule.{Reading, Refused, stepsFrom}
 use Rattle.state.specs.Fields.{fields}
 use Rattle.tail.specs.Tail.{releaseOf, headerOf, tailInRange}
 use Rattle.form.specs.Form.{formOf, wide, tailLength, tailAt}
-use Rattle.start.specs.Types.{Kind, Header, Release, Start}
+use Rattle.passes.specs.Pass.{validated, HandsOn}
+use Rattle.start.specs.Types.{Kind, Header, Context, Release, Validated, Start}
 
 -- a call count over 54,000 is out of range
 abbrev pub mostCalls : ℕ
@@ -41,9 +43,16 @@ readUnder refusal h bytes =
 abbrev pub readFrom : List ℕ → List ℕ → Reading
 readFrom tail bytes = readUnder (tailRefusal Kind.WideHeader tail) (startHeader tail) bytes
 
+-- Request 2026-05: in a run from a tail that is not refused, what is handed on is of the tail's header, with the mask of its n: also where a record is
+-- refused; and in the answer of the first pass. Proved in proofs/Begun.antt
+pub record RunFromMask : Type 0 where
+  pub header : (tail bytes : List ℕ) → tailRefusal Kind.WideHeader tail ≡ accepted → HandsOn bytes (contextOf (startHeader tail))
+  pub answer : (tail bytes : List ℕ) (c : Context) (count : ℕ) → validated (readFrom tail bytes) ≡ Validated.Steps c count → c ≡ contextOf (startHeader tail)
+
 -- what the code makes of a tail: what refuses it, and, where nothing does, its header, and its release as numbers and store
 pub record StartOf (k : Kind) (tail : List ℕ) (s : Start) : Type 0 where
   pub refusal : s .refusal ≡ tailRefusal k tail
-  pub header : tailRefusal k tail ≡ accepted → s .header ≡ headerOf k (tailAt (formOf k) tail)
+  pub context : s .context ≡ contextOf (s .context .header)
+  pub header : tailRefusal k tail ≡ accepted → s .context .header ≡ headerOf k (tailAt (formOf k) tail)
   pub numbers : tailRefusal k tail ≡ accepted → s .numbers ≡ fields (releaseOf (tailAt (formOf k) tail))
   pub store : tailRefusal k tail ≡ accepted → s .store ≡ releaseOf (tailAt (formOf k) tail) .store

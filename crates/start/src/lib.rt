@@ -9,6 +9,7 @@ use number::TOO_SHORT;
 use number::WRONG_LENGTH;
 use passes::Validated;
 use passes::count_steps;
+use schedule::Context;
 use schedule::Header;
 use schedule::LONGEST;
 use state::FIELDS;
@@ -20,9 +21,10 @@ use writer::Written;
 ghost use mathlib.Core.Path.{_≡_};
 ghost use lib.ListN.{length};
 ghost use Rattle.number.specs.Refusal.{accepted};
+ghost use Rattle.schedule.specs.Context.{contextOf};
 ghost use Rattle.writer.specs.Writer.{writtenHands};
 ghost use Rattle.state.specs.Fields.{fields as numbersOf};
-ghost use Rattle.tail.specs.Tail.{releaseOf, headerOf};
+ghost use Rattle.tail.specs.Tail.{releaseOf};
 ghost use Rattle.passes.specs.Pass.{validated};
 ghost use Rattle.start.specs.Start.{StartOf, readUnder};
 ghost use Rattle.start.specs.Move.{moveAnswers, moveHands, moveLeaves};
@@ -30,52 +32,54 @@ ghost use Rattle.start.specs.Move.{moveAnswers, moveHands, moveLeaves};
 // A call count over 54,000 is out of range: a run may add the calls of 32,768 bytes, three bytes each, and no count passes its limit.
 const START_LIMIT: u16 = 54001;
 
-// A tail that was read: what refuses it, or 0. Where nothing does, the header that its n and votes are of, and its release as numbers and store.
+// A tail that was read: what refuses it, or 0. Where nothing does, the header that its n and votes are of, with the mask of all participants, and its
+// release as numbers and store.
 pub struct Start {
     pub refusal: u32,
-    pub header: Header,
+    pub context: Context,
     pub numbers: [u32; FIELDS],
     pub store: Store,
 }
 
 // The start of a tail that is refused.
 fn refused(k: u32, kind: Kind) -> Start
-    ensures { λ s. ⌜ s .refusal ≡ k ⌝ }
+    ensures { λ s. ⌜ (s .refusal ≡ k) × (s .context ≡ contextOf (s .context .header)) ⌝ }
 {
     let numbers = fresh(0, 0);
     let store = Store::empty();
+    let header = Header {
+        kind: kind,
+        n: 0,
+        votes: 0,
+    };
     Start {
         refusal: k,
-        header: Header {
-            kind: kind,
-            n: 0,
-            votes: 0,
+        context: Context {
+            header: header,
+            all: 0,
         },
         numbers: numbers,
         store: store,
     }
 }
 
-// The start of a tail with these fields.
-fn start_of(fields: Tail, kind: Kind) -> Start
-    ensures { λ s. ⌜ (s .refusal ≡ accepted) × (s .header ≡ headerOf kind fields) × (s .numbers ≡ numbersOf (releaseOf fields)) × (s .store ≡ releaseOf fields .store) ⌝ }
+// The start of a tail with these fields, under its header.
+fn start_of(fields: Tail, context: Context) -> Start
+    ensures { λ s. ⌜ (s .refusal ≡ accepted) × (s .context ≡ context) × (s .numbers ≡ numbersOf (releaseOf fields)) × (s .store ≡ releaseOf fields .store) ⌝ }
 {
     let r = fields.release();
     let numbers = fields_of(r);
     let store = r.store;
     Start {
         refusal: 0,
-        header: Header {
-            kind: kind,
-            n: fields.n,
-            votes: fields.votes,
-        },
+        context: context,
         numbers: numbers,
         store: store,
     }
 }
 
-// Reads a tail under a header of a kind.
+// Reads a tail under a header of a kind. The mask of all participants is worked out here, for the test of its fields and for all records and steps of
+// a run from it.
 pub fn read_start(tail: &[u8], kind: Kind) -> Start
     ensures { λ s. ⌜ StartOf kind (now (tail .entry)) s ⌝ }
 {
@@ -84,8 +88,9 @@ pub fn read_start(tail: &[u8], kind: Kind) -> Start
         return refused(WRONG_LENGTH, kind);
     }
     let fields = read_tail(tail, form);
-    if fields.in_range(kind, START_LIMIT) {
-        start_of(fields, kind)
+    let context = fields.header(kind).context();
+    if fields.in_range(context, START_LIMIT) {
+        start_of(fields, context)
     } else {
         refused(OUT_OF_RANGE, kind)
     }
@@ -113,8 +118,9 @@ pub fn move_tail(tail: &[u8], wide: &mut [u8]) -> Written
 }
 
 // The first pass of a run from a tail: what refuses it, and then the steps from the left, under its header, with their count.
-pub fn validate_from(refusal: u32, header: Header, rest: &[u8]) -> Validated
-    ensures { λ x. ⌜ x ≡ validated (readUnder refusal header (now (rest .entry))) ⌝ }
+pub fn validate_from(refusal: u32, context: Context, rest: &[u8]) -> Validated
+    requires { ⌜ context ≡ contextOf (context .header) ⌝ }
+    ensures { λ x. ⌜ x ≡ validated (readUnder refusal (context .header) (now (rest .entry))) ⌝ }
 {
     if LONGEST < rest.len() {
         return Validated::Refused(EMPTY_OR_TOO_LONG, 0);
@@ -122,5 +128,5 @@ pub fn validate_from(refusal: u32, header: Header, rest: &[u8]) -> Validated
     if refusal != 0 {
         return Validated::Refused(refusal, 0);
     }
-    count_steps(rest, 0, header)
+    count_steps(rest, 0, context)
 }

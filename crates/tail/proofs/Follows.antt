@@ -8,7 +8,7 @@ use lib.Dec.{leb, ltb}
 use lib.ListN.{length, length-replicate, getD}
 use borrow.Author.Tests.{ltb-true, ltb-false, leb-false, lt-ltb, le-leb}
 use Rattle.number.proofs.Laws.{and-left, and-right, and-true, is-number, are-numbers}
-use Rattle.mask.specs.Mask.{within}
+use Rattle.mask.specs.Mask.{full, within}
 use Rattle.store.specs.Log.{recordNumber, recordOf, isRecord, isAllowed, empty, places}
 use Rattle.store.proofs.Numbers.{record-numbers}
 use Rattle.participant.specs.Participant
@@ -49,10 +49,10 @@ fields-from s l =
     }
 
 fields-encoded : (n i : ℕ) (f : ParticipantFields) (b : Bool)
-    → cond b (Participant.numbersInRange n i (f .state) (f .heard) && recordsInRange f) (fieldsZero f) ≡ true → fields-from (siteOf f) (pairOf f) ≡ f
+    → cond b (Participant.numbersInRange (full n) i (f .state) (f .heard) && recordsInRange f) (fieldsZero f) ≡ true → fields-from (siteOf f) (pairOf f) ≡ f
 fields-encoded n i f true q =
-    let p = participant-numbers .encoded (f .state) (f .heard) (and-left _ _ (and-left (Participant.numbersInRange n i (f .state) (f .heard)) _ q)) in
-    let r : recordsInRange f ≡ true = and-right (Participant.numbersInRange n i (f .state) (f .heard)) _ q in
+    let p = participant-numbers .encoded (f .state) (f .heard) (and-left _ _ (and-left (Participant.numbersInRange (full n) i (f .state) (f .heard)) _ q)) in
+    let r : recordsInRange f ≡ true = and-right (Participant.numbersInRange (full n) i (f .state) (f .heard)) _ q in
     let t = and-right (isRecord (f .first)) _ r in
     fields-equal (p .0) (p .1) (record-numbers .encoded (f .first) (and-left _ _ r)) (record-numbers .encoded (f .last) (and-left _ _ t))
 fields-encoded n i f false q =
@@ -63,10 +63,10 @@ tail-encoded k limit t l q =
     rw (p .0, p .1, each) refl
   where
     p : (Coordinator.stateNumber (Coordinator.ofNumbers (t .state) (t .heard)) ≡ t .state) × (Coordinator.heardOf (Coordinator.ofNumbers (t .state) (t .heard)) ≡ t .heard)
-    p = coordinator-numbers .encoded (t .state) (t .heard) (and-left _ _ (and-left (Coordinator.numbersInRange (t .n) (t .state) (t .heard)) _ (parties-in-range k limit t q)))
+    p = coordinator-numbers .encoded (t .state) (t .heard) (and-left _ _ (and-left (Coordinator.numbersInRange (full (t .n)) (t .state) (t .heard)) _ (parties-in-range k limit t q)))
 
     passed : participantsInRange t ≡ true
-    passed = and-right (Coordinator.numbersInRange (t .n) (t .state) (t .heard)) _ (parties-in-range k limit t q)
+    passed = and-right (Coordinator.numbersInRange (full (t .n)) (t .state) (t .heard)) _ (parties-in-range k limit t q)
 
     at : (i : ℕ) → i < places → fieldsOf (releaseOf t) i ≡ fieldsAt t i
     at i h =
@@ -114,12 +114,12 @@ records-tested l q =
     (and-true _ _ (is-number recordNumber recordOf record-numbers (l .last))
     (rw (record-numbers .decoded (l .first), record-numbers .decoded (l .last)) q))
 
-numbers-tested : (n i : ℕ) (p : Participant) → Participant.inRange n i p ≡ true → Participant.numbersInRange n i (Participant.stateNumber p) (Participant.heardOf p) ≡ true
+numbers-tested : (n i : ℕ) (p : Participant) → Participant.inRange (full n) i p ≡ true → Participant.numbersInRange (full n) i (Participant.stateNumber p) (Participant.heardOf p) ≡ true
 numbers-tested n i p q =
     and-true _ _ (are-numbers Participant.stateNumber Participant.heardOf Participant.ofNumbers participant-numbers p)
     (rw (participant-numbers .decoded p) q)
 
-coordinator-numbers-tested : (n : ℕ) (c : Coordinator) → Coordinator.inRange n c ≡ true → Coordinator.numbersInRange n (Coordinator.stateNumber c) (Coordinator.heardOf c) ≡ true
+coordinator-numbers-tested : (n : ℕ) (c : Coordinator) → Coordinator.inRange (full n) c ≡ true → Coordinator.numbersInRange (full n) (Coordinator.stateNumber c) (Coordinator.heardOf c) ≡ true
 coordinator-numbers-tested n c q =
     and-true _ _ (are-numbers Coordinator.stateNumber Coordinator.heardOf Coordinator.ofNumbers coordinator-numbers c)
     (rw (coordinator-numbers .decoded c) q)

@@ -1,11 +1,12 @@
 -- The single step takes the rules' step on the numbers of its release. Assumes nothing.
-use mathlib.Core.Path.{_≡_, refl, ap, ap₂, _∙_}
+use mathlib.Core.Path.{_≡_, sym, ap, ap₂, _∙_}
 use mathlib.Core.Bool.{Bool, true}
 use mathlib.Core.List.{List}
 use Prim.Native.Nat.{suc, ℕ}
 use native.Mathlib.Omega.{arith}
 use lib.ListN.{length}
 use Rattle.number.proofs.Table.{length-tabulate}
+use Rattle.mask.specs.Mask.{full}
 use Rattle.store.specs.Log.{places}
 use Rattle.rules.specs.Step.{step}
 use Rattle.rules.specs.Run.{countLimit}
@@ -25,9 +26,9 @@ module _ (t : Tail) (m : length (t .messages) ≡ 5) (k : length (t .calls) ≡ 
   pub can-count : CanCount l
   can-count p g = rw (e, count-in (releaseOf t) tail-places p g) (calls-below Kind.WideHeader countLimit t (omega arith) k q p)
 
-  module _ (s : Step) (o : Outcome) (c : Bool) (after : List ℕ) (before next : Store) (b : before ≡ releaseOf t .store) (leads : Steps (t .n) (λ r. step r s) l before o c after next) where
+  module _ (s : Step) (o : Outcome) (c : Bool) (after : List ℕ) (before next : Store) (all : ℕ) (w : all ≡ full (t .n)) (b : before ≡ releaseOf t .store) (leads : Steps all (λ r. step r s) l before o c after next) where
     led : (o ≡ step (releaseOf t) s .outcome) × (after ≡ fields (step (releaseOf t) s .next)) × (next ≡ step (releaseOf t) s .next .store) × (c ≡ step (releaseOf t) s .closed)
-    led = leads (releaseOf t) tail-places refl e b
+    led = leads (releaseOf t) tail-places (sym w) e b
 
     pub same-outcome : o ≡ step (releaseOf t) s .outcome
     same-outcome = led .0

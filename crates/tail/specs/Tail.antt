@@ -5,7 +5,7 @@ use Prim.Native.Nat.{ℕ, suc}
 use lib.Dec.{eqb, leb, ltb}
 use lib.ListN.{length, getD}
 use Rattle.number.specs.Table.{tabulate, every}
-use Rattle.mask.specs.Mask.{within}
+use Rattle.mask.specs.Mask.{full, within}
 use Rattle.store.specs.Log.{recordNumber, recordOf, isRecord, isAllowed, places}
 use Rattle.participant.specs.Participant
 use Rattle.coordinator.specs.Coordinator
@@ -80,13 +80,13 @@ abbrev pub fieldsZero : ParticipantFields → Bool
 fieldsZero f = eqb (f .state) 0 && (eqb (f .heard) 0 && (eqb (f .first) 0 && eqb (f .last) 0))
 
 abbrev pub participantInRange : ℕ → ℕ → ParticipantFields → Bool
-participantInRange n i f = cond (ltb i n) (Participant.numbersInRange n i (f .state) (f .heard) && recordsInRange f) (fieldsZero f)
+participantInRange n i f = cond (ltb i n) (Participant.numbersInRange (full n) i (f .state) (f .heard) && recordsInRange f) (fieldsZero f)
 
 abbrev pub participantsInRange : Tail → Bool
 participantsInRange t = every (λ i. participantInRange (t .n) i (fieldsAt t i)) places
 
 abbrev pub partiesInRange : Tail → Bool
-partiesInRange t = Coordinator.numbersInRange (t .n) (t .state) (t .heard) && participantsInRange t
+partiesInRange t = Coordinator.numbersInRange (full (t .n)) (t .state) (t .heard) && participantsInRange t
 
 -- a call count is below a limit, which is the entry's
 abbrev pub countInRange : ℕ → ℕ → ℕ → ℕ → Bool

@@ -7,6 +7,7 @@ pub use Rattle.coordinator.specs.declared.Coordinator.{Coordinator}
 pub use Rattle.kind.specs.declared.Kind.{Kind}
 pub use Rattle.kind.specs.declared.Step.{Step}
 pub use Rattle.schedule.specs.declared.Header.{Header}
+pub use Rattle.schedule.specs.declared.Context.{Context}
 pub use Rattle.rules.specs.declared.Site.{Site}
 pub use Rattle.rules.specs.declared.Release.{Release}
 pub use Rattle.rules.specs.declared.Outcome.{Outcome}

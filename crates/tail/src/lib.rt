@@ -8,6 +8,7 @@ use rules::PARTIES;
 use rules::Release;
 use rules::Site;
 use rules::TYPES;
+use schedule::Context;
 use schedule::Header;
 use store::LOGS;
 use store::LogPair;
@@ -15,11 +16,13 @@ use store::LogRecord;
 use store::Store;
 ghost use mathlib.Core.Path.{_≡_};
 ghost use mathlib.Core.Bool.{true};
-ghost use Prim.Native.Nat.{_≤_, _<_};
+ghost use Prim.Native.Nat.{_<_};
+ghost use Rattle.mask.specs.Mask.{full};
 ghost use Rattle.store.specs.Log.{places};
+ghost use Rattle.schedule.specs.Context.{contextOf};
 ghost use Rattle.rules.specs.State.{participantAt, logAt};
 ghost use Rattle.number.specs.Table.{tabulate};
-ghost use Rattle.tail.specs.Tail.{fieldsFor, tailOf, siteOf, pairOf, fieldsAt, releaseOf, messagesInRange, recordsInRange, fieldsZero, participantInRange, participantsInRange, partiesInRange, countInRange, callsInRange, tailInRange};
+ghost use Rattle.tail.specs.Tail.{fieldsFor, tailOf, siteOf, pairOf, fieldsAt, releaseOf, headerOf, messagesInRange, recordsInRange, fieldsZero, participantInRange, participantsInRange, partiesInRange, countInRange, callsInRange, tailInRange};
 
 // A participant's state, heard mask, and its log's first and last record.
 pub struct ParticipantFields {
@@ -105,13 +108,13 @@ impl ParticipantFields {
         }
     }
 
-    // Whether the participant at place i among n can have these fields.
-    fn in_range(self, n: u32, i: u32) -> bool
-        requires { ⌜ (n ≤ 32) × (i < 32) ⌝ }
+    // Whether the participant at place i among n can have these fields; `all` is the mask of all n.
+    fn in_range(self, n: u32, all: u32, i: u32) -> bool
+        requires { ⌜ (all ≡ full n) × (i < 32) ⌝ }
         ensures { λ b. ⌜ b ≡ participantInRange n i self ⌝ }
     {
         if i < n {
-            if Participant::numbers_in_range(n, i, self.state, self.heard) {
+            if Participant::numbers_in_range(all, i, self.state, self.heard) {
                 self.records_in_range()
             } else {
                 false
@@ -222,28 +225,38 @@ impl Tail {
         }
     }
 
-    fn messages_in_range(self) -> bool
-        requires { ⌜ self .n ≤ 32 ⌝ }
+    // The header that its n and votes are of.
+    pub fn header(self, kind: Kind) -> Header
+        ensures { λ h. ⌜ h ≡ headerOf kind self ⌝ }
+    {
+        Header {
+            kind: kind,
+            n: self.n,
+            votes: self.votes,
+        }
+    }
+
+    fn messages_in_range(self, all: u32) -> bool
+        requires { ⌜ all ≡ full (self .n) ⌝ }
         ensures { λ b. ⌜ b ≡ messagesInRange self ⌝ }
     {
-        let n = self.n;
         for k in 0..TYPES {
             let m = self.messages[k];
-            if mask::within(m, n) {} else {
+            if mask::within(m, all) {} else {
                 return false;
             }
         }
         true
     }
 
-    fn participants_in_range(self) -> bool
-        requires { ⌜ self .n ≤ 32 ⌝ }
+    fn participants_in_range(self, all: u32) -> bool
+        requires { ⌜ all ≡ full (self .n) ⌝ }
         ensures { λ b. ⌜ b ≡ participantsInRange self ⌝ }
     {
         let n = self.n;
         for i in 0..LOGS {
             let fields = self.participants[i];
-            if fields.in_range(n, i as u32) {} else {
+            if fields.in_range(n, all, i as u32) {} else {
                 return false;
             }
         }
@@ -263,29 +276,26 @@ impl Tail {
         true
     }
 
-    fn parties_in_range(self) -> bool
-        requires { ⌜ self .n ≤ 32 ⌝ }
+    fn parties_in_range(self, all: u32) -> bool
+        requires { ⌜ all ≡ full (self .n) ⌝ }
         ensures { λ b. ⌜ b ≡ partiesInRange self ⌝ }
     {
-        if Coordinator::numbers_in_range(self.n, self.state, self.heard) {
-            self.participants_in_range()
+        if Coordinator::numbers_in_range(all, self.state, self.heard) {
+            self.participants_in_range(all)
         } else {
             false
         }
     }
 
-    // Whether the tail of that n can hold these fields, under a header of a kind, with every count below a limit.
-    pub fn in_range(self, kind: Kind, limit: u16) -> bool
-        ensures { λ b. ⌜ b ≡ tailInRange kind limit self ⌝ }
+    // Whether the tail of that n can hold these fields, under its header, with every count below a limit. The header has the mask of all participants:
+    // every mask of the tail is tested by that one.
+    pub fn in_range(self, context: Context, limit: u16) -> bool
+        requires { ⌜ context ≡ contextOf (headerOf (context .header .kind) self) ⌝ }
+        ensures { λ b. ⌜ b ≡ tailInRange (context .header .kind) limit self ⌝ }
     {
-        let header = Header {
-            kind: kind,
-            n: self.n,
-            votes: self.votes,
-        };
-        if header.in_range() {
-            if self.messages_in_range() {
-                if self.parties_in_range() {
+        if context.in_range() {
+            if self.messages_in_range(context.all) {
+                if self.parties_in_range(context.all) {
                     self.calls_in_range(limit)
                 } else {
                     false

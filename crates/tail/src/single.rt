@@ -11,6 +11,7 @@ use state::fields_of;
 use state::release;
 ghost use mathlib.Core.Path.{_≡_};
 ghost use mathlib.Core.Bool.{true};
+ghost use Rattle.mask.specs.Mask.{full};
 ghost use Rattle.kind.specs.Step.{inRange};
 ghost use Rattle.rules.specs.Step.{step};
 ghost use Rattle.rules.specs.Run.{countLimit};
@@ -38,14 +39,14 @@ impl Tail {
         }
     }
 
-    fn stepped(self, s: Step) -> Stepped
-        requires { ⌜ (tailInRange Kind.WideHeader countLimit self ≡ true) × (inRange (self .n) s ≡ true) ⌝ }
+    fn stepped(self, all: u32, s: Step) -> Stepped
+        requires { ⌜ (tailInRange Kind.WideHeader countLimit self ≡ true) × (inRange (self .n) s ≡ true) × (all ≡ full (self .n)) ⌝ }
         ensures { λ x. ⌜ x ≡ handed self (step (releaseOf self) s) ⌝ }
     {
         let before = self.release();
         let mut fields = fields_of(before);
         let store = before.store;
-        let stepped = step(&mut fields, store, self.n, s);
+        let stepped = step(&mut fields, store, all, s);
         let outcome = stepped.outcome;
         let next = stepped.store;
         if moves(outcome) {
@@ -64,9 +65,10 @@ impl Tail {
     pub fn single_step(self, kind: u32, a: u32, b: u32) -> Stepped
         ensures { λ s. ⌜ s ≡ singleStep self kind a b ⌝ }
     {
-        if self.in_range(Kind::WideHeader, COUNT_LIMIT) {
+        let context = self.header(Kind::WideHeader).context();
+        if self.in_range(context, COUNT_LIMIT) {
             if Step::numbers_in_range(self.n, kind, a, b) {
-                self.stepped(Step::of(Kind::of(kind), a, b))
+                self.stepped(context.all, Step::of(Kind::of(kind), a, b))
             } else {
                 self.refused(OUT_OF_RANGE)
             }

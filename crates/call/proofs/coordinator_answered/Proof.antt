@@ -15,7 +15,7 @@ coordinator-answered-spec =
     (λ c κs. search needs)
     (λ c. search needs)
     (λ c κs. search needs)
-    (λ c κs. (omega arith, c .before .before .before .before .before .before .pre .2 0 (omega arith)))
+    (λ c κs. (omega arith, c .before .before .before .before .before .before .pre .1 0 (omega arith)))
     (λ c κs. search needs)
     (λ c κs. search needs)
     (λ c κs. search needs)

@@ -10,7 +10,7 @@ use Rattle.call.proofs.coordinator_calls.Tie as tie
 
 returns : tie.Need-returns
 unfolding coordinatorCalls
-returns c = let start = c .before .before .before .before .before .before in reads-called _ 0 _ _ _ (lit< tt) (λ n v d p x. coordinatorPerformed (start .args .heard) (start .args .j) (perform (Coordinator.pending d (start .args .j)) x)) (start .args .j) _ _ _ (rw (c .before .perform .ensures, c .before .before .pending .ensures, c .before .before .before .before .coordinator .ensures) at (c .coordinator-performed .ensures))
+returns c = let start = c .before .before .before .before .before .before in reads-called _ 0 _ _ _ (lit< tt) (λ all v d p x. coordinatorPerformed (start .args .heard) (start .args .j) (perform (Coordinator.pending d (start .args .j)) x)) (start .args .j) _ _ _ (rw (c .before .perform .ensures, c .before .before .pending .ensures, c .before .before .before .before .coordinator .ensures) at (c .coordinator-performed .ensures))
 
 pub coordinator-calls-spec : {M : Type 1} → statement M
 coordinator-calls-spec =
@@ -19,5 +19,5 @@ coordinator-calls-spec =
     (λ c κs. search needs)
     (λ c κs. search needs)
     (λ c κs. search needs)
-    (λ c κs. let start = c .before .before .before .before .before in (start .pre .0, start .pre .1, start .pre .2, c .before .before .before .coordinator .ensures))
+    (λ c κs. let start = c .before .before .before .before .before in (start .pre .0, start .pre .1, c .before .before .before .coordinator .ensures))
     returns)

@@ -17,4 +17,4 @@ coordinator-performed-spec =
     (λ c κs. search needs)
     (λ c κs. search needs)
     (λ c. rw (c .before .enum-told .given .1, c .new .ensures) (idles-on _ _ _ _))
-    (λ c. let start = c .before .before .before .before .before .before in rw (c .before .before .before .before .l .given .1) (reads-called _ 0 _ _ _ (lit< tt) (λ n v d p x. coordinatorAnswered (start .args .heard) (start .args .j) (c .before .before .before .before .l .given .0 .0) (Coordinator.onAnswer n d (start .args .j) (c .before .before .before .before .l .given .0 .0 .answer))) (start .args .j) _ _ _ (rw (c .before .answer .ensures, start .pre .3) at (c .coordinator-answered .ensures)))))
+    (λ c. let start = c .before .before .before .before .before .before in rw (c .before .before .before .before .l .given .1) (reads-called _ 0 _ _ _ (lit< tt) (λ all v d p x. coordinatorAnswered (start .args .heard) (start .args .j) (c .before .before .before .before .l .given .0 .0) (Coordinator.onAnswer all d (start .args .j) (c .before .before .before .before .l .given .0 .0 .answer))) (start .args .j) _ _ _ (rw (c .before .answer .ensures, start .pre .2) at (c .coordinator-answered .ensures)))))

@@ -9,7 +9,7 @@ use Rattle.call.proofs.participant_calls.Tie as tie
 
 returns : tie.Need-returns
 unfolding participantCalls
-returns c = let start = c .before .before .before .before .before .before in reads-called _ (start .args .i) _ _ _ (start .pre .1) (λ n v d p x. participantPerformed (start .args .heard) (start .args .i) (start .args .j) (perform (Participant.pending (start .args .i) p (start .args .j)) x)) (start .args .j) _ _ _ (rw (c .before .perform .ensures, c .before .before .pending .ensures, c .before .before .before .before .participant-at .ensures) at (c .participant-performed .ensures))
+returns c = let start = c .before .before .before .before .before .before in reads-called _ (start .args .i) _ _ _ (start .pre .0) (λ all v d p x. participantPerformed (start .args .heard) (start .args .i) (start .args .j) (perform (Participant.pending (start .args .i) p (start .args .j)) x)) (start .args .j) _ _ _ (rw (c .before .before .perform .ensures, c .before .before .before .pending .ensures, c .before .before .before .before .participant-at .ensures) at (c .participant-performed .ensures))
 
 pub participant-calls-spec : {M : Type 1} → statement M
 participant-calls-spec =
@@ -18,5 +18,5 @@ participant-calls-spec =
     (λ c κs. search needs)
     (λ c κs. search needs)
     (λ c κs. search needs)
-    (λ c κs. let start = c .before .before .before .before .before in (start .pre .0, start .pre .1, start .pre .2, start .pre .3, c .before .before .before .participant-at .ensures))
+    (λ c κs. let start = c .before .before .before .before .before in (start .pre .0, start .pre .1, start .pre .2, c .before .before .before .participant-at .ensures))
     returns)

@@ -16,4 +16,4 @@ participant-performed-spec =
     (λ c κs. search needs)
     (λ c κs. search needs)
     (λ c. rw (c .before .enum-told .given .1, c .new .ensures) (idles-on _ _ _ _))
-    (λ c. let start = c .before .before .before .before .before .before in rw (c .before .before .before .before .l .given .1) (reads-called _ (start .args .i) _ _ _ (start .pre .1) (λ n v d p x. participantAnswered (start .args .heard) (start .args .i) (start .args .j) (c .before .before .before .before .l .given .0 .0) (Participant.onAnswer n (start .args .i) p (start .args .j) (c .before .before .before .before .l .given .0 .0 .answer))) (start .args .j) _ _ _ ((rw (c .before .answer .ensures, start .pre .4) at (c .participant-answered .ensures)) (start .args .n)))))
+    (λ c. let start = c .before .before .before .before .before .before in rw (c .before .before .before .before .l .given .1) (reads-called _ (start .args .i) _ _ _ (start .pre .0) (λ all v d p x. participantAnswered (start .args .heard) (start .args .i) (start .args .j) (c .before .before .before .before .l .given .0 .0) (Participant.onAnswer all (start .args .i) p (start .args .j) (c .before .before .before .before .l .given .0 .0 .answer))) (start .args .j) _ _ _ ((rw (c .before .answer .ensures, start .pre .3) at (c .participant-answered .ensures)) (start .args .all)))))

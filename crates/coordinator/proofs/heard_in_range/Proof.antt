@@ -9,6 +9,5 @@ heard-in-range-spec =
     tie.close
     (tie.spec
     (λ c κs. search needs)
-    (λ c κs. search needs)
-    (λ c. simp (c .full .ensures, sym (c .before .before .within .ensures) ∙ c .before .if1 .taken))
+    (λ c. simp (sym (c .before .within .ensures) ∙ c .if1 .taken))
     (λ c. simp (sym (c .before .within .ensures) ∙ c .if1 .left)))

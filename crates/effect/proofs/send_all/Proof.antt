@@ -11,6 +11,5 @@ send-all-spec =
     (λ c. search needs)
     (λ c. search needs)
     (λ c κs. search needs)
-    (λ c κs. search needs)
     (λ c. rw (c .enum-told .given .1) (λ r h q e. e))
-    (λ c. rw (c .before .before .before .before .s .given .1, c .put-mask .ensures, c .before .full .ensures) (masks-all _ _ _)))
+    (λ c. rw (c .before .before .before .s .given .1, c .put-mask .ensures) (masks-all _ _ _)))

@@ -11,18 +11,18 @@ use Rattle.passes.specs.Pass.{validated, readingFrom}
 use Rattle.start.specs.declared.Start.{Start}
 use Rattle.start.specs.Start.{startRelease, readUnder, readFrom, StartOf}
 use Rattle.start.proofs.Begun.{passed-from, steps-from, was-read, at-once, start-back, started}
-use Rattle.listing.specs.Types.{Header, Validated}
+use Rattle.listing.specs.Types.{Context, Validated}
 use Rattle.listing.specs.Listing.{readingText, listingFrom, textAnswer, textLeft}
 use Rattle.listing.proofs.Listed.{refused-text, text-from}
 use Rattle.listing.proofs.list_from.Statement.{statement}
 use Rattle.listing.proofs.list_from.Tie as tie
 
 -- the text of a run from the start of a tail is its listing
-from-tail : {tail : List ℕ} {s : Start} (from : StartOf Kind.WideHeader tail s) (bytes : List ℕ) {y : Validated} (e : y ≡ validated (readUnder (s .refusal) (s .header) bytes)) (h : Header) (m : ℕ)
-    (d : y ≡ Validated.Steps h m) → readingText (λ _. releaseIn (s .numbers) (s .store)) (readingFrom bytes h 0) ≡ listingFrom tail bytes
-from-tail {tail = tail} {s = s} from bytes e h m d =
-    ap (readingText (λ _. releaseIn (s .numbers) (s .store))) (at-once from bytes e h m d)
-    ∙ text-from (λ _. startRelease tail) (readFrom tail bytes) h m (steps-from from bytes e h m d) _ (start-back from bytes e h m d)
+from-tail : {tail : List ℕ} {s : Start} (from : StartOf Kind.WideHeader tail s) (bytes : List ℕ) {y : Validated} (e : y ≡ validated (readUnder (s .refusal) (s .context .header) bytes)) (c : Context) (m : ℕ)
+    (d : y ≡ Validated.Steps c m) → readingText (λ _. releaseIn (s .numbers) (s .store)) (readingFrom bytes (c .header) 0) ≡ listingFrom tail bytes
+from-tail {tail = tail} {s = s} from bytes e c m d =
+    ap (readingText (λ _. releaseIn (s .numbers) (s .store))) (at-once from bytes e c m d)
+    ∙ text-from (λ _. startRelease tail) (readFrom tail bytes) c m (steps-from from bytes e c m d) _ (start-back from bytes e c m d)
 
 pub list-from-spec : {M : Type 1} → statement M
 list-from-spec =

@@ -24,7 +24,7 @@ use Rattle.listing.proofs.list_steps.Tie as tie
 -- the steps, and the release that they start from
 
 abbrev steps : tie.Start → List Step
-steps c = stepsOf (readingFrom (c .args .schedule .now) (c .args .header) (c .args .start))
+steps c = stepsOf (readingFrom (c .args .schedule .now) (c .args .context .header) (c .args .start))
 
 abbrev from : tie.Start → Release
 from c = releaseIn (c .args .numbers .now) (c .args .store)
@@ -34,7 +34,7 @@ room : (c : tie.After-bytes) → c .before .before .before .before .args .steps 
 room c =
     let start = c .before .before .before .before in
     let args = start .args in
-    omega (arith, stand (args .schedule .now) (args .start) (args .header) (args .steps) (start .pre .0 .steps) .few, start .pre .1, length-replicate {A = ℕ} longest 0)
+    omega (arith, stand (args .schedule .now) (args .start) (args .context) (args .steps) (start .pre .0 .steps) .few, start .pre .1, length-replicate {A = ℕ} longest 0)
 
 -- they stand at its front
 stepped : (c : tie.After-run-steps) → take (c .before .before .before .before .before .args .steps) (c .run-steps .last .1 .1 .1 .1 .1 .1 .0) ≡ stepBytes (from (c .before .before .before .before .before)) (steps (c .before .before .before .before .before))

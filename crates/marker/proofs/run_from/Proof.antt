@@ -11,23 +11,23 @@ use Rattle.passes.specs.Pass.{validated, readingFrom}
 use Rattle.start.specs.declared.Start.{Start}
 use Rattle.start.specs.Start.{startRelease, readUnder, readFrom, StartOf}
 use Rattle.start.proofs.Begun.{passed-from, steps-from, at-once, start-back, started}
-use Rattle.marker.specs.Types.{Header, Written, Validated}
+use Rattle.marker.specs.Types.{Context, Written, Validated}
 use Rattle.marker.specs.Run.{readingAnswer, readingLeaves, runFromAnswers, runFromLeaves}
 use Rattle.marker.proofs.Ran.{run-refused, left-from}
 use Rattle.marker.proofs.run_from.Statement.{statement}
 use Rattle.marker.proofs.run_from.Tie as tie
 
 -- the report that is written from the start of a tail is the run's
-written : {tail : List ℕ} {s : Start} (from : StartOf Kind.WideHeader tail s) (bytes : List ℕ) {y : Validated} (e : y ≡ validated (readUnder (s .refusal) (s .header) bytes)) (h : Header) (m : ℕ)
-    (d : y ≡ Validated.Steps h m) (x : Written) (before after : List ℕ) → x ≡ readingAnswer (length before) (readingFrom bytes h 0)
-    → after ≡ readingLeaves (λ _. releaseIn (s .numbers) (s .store)) before (readingFrom bytes h 0)
+written : {tail : List ℕ} {s : Start} (from : StartOf Kind.WideHeader tail s) (bytes : List ℕ) {y : Validated} (e : y ≡ validated (readUnder (s .refusal) (s .context .header) bytes)) (c : Context) (m : ℕ)
+    (d : y ≡ Validated.Steps c m) (x : Written) (before after : List ℕ) → x ≡ readingAnswer (length before) (readingFrom bytes (c .header) 0)
+    → after ≡ readingLeaves (λ _. releaseIn (s .numbers) (s .store)) before (readingFrom bytes (c .header) 0)
     → (x ≡ runFromAnswers (length before) tail bytes) × (after ≡ runFromLeaves before tail bytes)
-written {tail = tail} {s = s} from bytes e h m d x before after a l =
-    let same = at-once from bytes e h m d in (
+written {tail = tail} {s = s} from bytes e c m d x before after a l =
+    let same = at-once from bytes e c m d in (
       a ∙ ap (readingAnswer (length before)) same,
       l
           ∙ ap (readingLeaves (λ _. releaseIn (s .numbers) (s .store)) before) same
-          ∙ left-from (λ _. startRelease tail) (readFrom tail bytes) h m (steps-from from bytes e h m d) _ (start-back from bytes e h m d) before,
+          ∙ left-from (λ _. startRelease tail) (readFrom tail bytes) c m (steps-from from bytes e c m d) _ (start-back from bytes e c m d) before,
     )
 
 pub run-from-spec : {M : Type 1} → statement M

@@ -11,7 +11,6 @@ heard-in-range-spec =
     (λ c κs. search needs)
     (λ c κs. search needs)
     (λ c κs. search needs)
-    (λ c κs. search needs)
     (λ c. simp (sym (c .before .has .ensures) ∙ c .if2 .taken, sym (c .before .before .before .within .ensures) ∙ c .before .before .if1 .taken))
-    (λ c. simp (c .full .ensures, c .before .insert .ensures, sym (c .before .before .before .has .ensures) ∙ c .before .before .if2 .left, sym (c .before .before .before .before .before .within .ensures) ∙ c .before .before .before .before .if1 .taken))
+    (λ c. simp (c .insert .ensures, sym (c .before .before .has .ensures) ∙ c .before .if2 .left, sym (c .before .before .before .before .within .ensures) ∙ c .before .before .before .if1 .taken))
     (λ c. simp (sym (c .before .within .ensures) ∙ c .if1 .left)))

@@ -10,24 +10,24 @@ use Rattle.schedule.specs.Reader.{stepAt, lengthAt}
 use Rattle.state.specs.Fields.{releaseIn}
 use Rattle.call.proofs.Calling.{stays}
 use Rattle.passes.proofs.Reading.{First, tail-part, read-first}
-use Rattle.passes.proofs.Going.{Going, Here, set-out, small, countable, ranged, has-room, fits, go-on, here-read, arrived}
+use Rattle.passes.proofs.Going.{Going, Here, set-out, countable, ranged, has-room, fits, go-on, here-read, arrived}
 use Rattle.passes.proofs.run_steps.Statement.{statement}
 use Rattle.passes.proofs.run_steps.Tie as tie
 
 abbrev Inv-loop : tie.InvT-loop
-Inv-loop schedule start header count numbers₀ report₀ left₀ at₀ i₀ numbers report left at i = Going schedule header start count (releaseIn numbers₀ left₀) report₀ report at i numbers left
+Inv-loop schedule start context count numbers₀ report₀ left₀ at₀ i₀ numbers report left at i = Going schedule context start count (releaseIn numbers₀ left₀) report₀ report at i numbers left
 
 abbrev μ-loop : tie.MeasureT-loop
-μ-loop schedule start header count numbers₀ report₀ left₀ at₀ i₀ numbers report left at i = length schedule - at
+μ-loop schedule start context count numbers₀ report₀ left₀ at₀ i₀ numbers report left at i = length schedule - at
 
 -- the record at the place where the loop stands
 abbrev here : (c : tie.In-loop Inv-loop μ-loop) → Here (c .before .loop .inv) (c .loop-test .taken)
 here c = here-read (c .before .loop .inv) (c .loop-test .taken)
 
-first-here : (c : tie.In-loop Inv-loop μ-loop) → First (c .before .before .before .before .args .schedule .now) (c .before .before .before .before .args .header) (c .before .loop .at) (here c .found) (here c .size)
+first-here : (c : tie.In-loop Inv-loop μ-loop) → First (c .before .before .before .before .args .schedule .now) (c .before .before .before .before .args .context .header) (c .before .loop .at) (here c .found) (here c .size)
 first-here c =
     let args = c .before .before .before .before .args in
-    read-first (args .schedule .now) (args .header) (c .before .loop .at) (c .loop-test .taken) (here c .found) (here c .size) (here c .read)
+    read-first (args .schedule .now) (args .context .header) (c .before .loop .at) (c .loop-test .taken) (here c .found) (here c .size) (here c .read)
 
 step-here : (c : tie.After-step-at Inv-loop μ-loop) → c .step-at .result ≡ recordStep (here (c .before .before) .found)
 step-here c =
@@ -45,7 +45,7 @@ run-steps-spec =
     (tie.spec
     Inv-loop
     μ-loop
-    (λ c. let args = c .before .before .args in set-out (args .schedule .now) (args .start) (args .header) (args .count) (args .report .now) (args .numbers .now) (args .store) (c .before .before .pre .0) (c .before .before .pre .1))
+    (λ c. let args = c .before .before .args in set-out (args .schedule .now) (args .start) (args .context) (args .count) (args .report .now) (args .numbers .now) (args .store) (c .before .before .pre .0) (c .before .before .pre .1))
     (λ c. search needs)
     (λ c. search needs)
     (λ c. search needs)
@@ -55,10 +55,10 @@ run-steps-spec =
     (λ c. search needs)
     (λ c κs. search needs)
     (λ c κs. search needs)
-    (λ c κs. let x = here (c .before .before .before .before .before .before .before) in let loop = c .before .before .before .before .before .before .before .before .loop in let some = c .before .before .before .before .before .before .before .loop-test .taken in (small (loop .inv) some, rw (step-here (c .before .before .before .before .before)) (ranged (loop .inv) some (x .found) (x .size) (x .read)), countable (loop .inv) some, sym (c .before .before .makes-call .ensures) ∙ c .before .if1 .taken))
+    (λ c κs. let x = here (c .before .before .before .before .before .before .before) in let loop = c .before .before .before .before .before .before .before .before .loop in let some = c .before .before .before .before .before .before .before .loop-test .taken in (rw (step-here (c .before .before .before .before .before)) (ranged (loop .inv) some (x .found) (x .size) (x .read)), countable (loop .inv) some, sym (c .before .before .makes-call .ensures) ∙ c .before .if1 .taken))
     (λ c κs. search needs)
     (λ c. let x = here (c .before .before .before .before .before .before .before .before .before) in has-room (c .before .before .before .before .before .before .before .before .before .before .loop .inv) (c .before .before .before .before .before .before .before .before .before .loop-test .taken) (x .found) (x .size) (x .read))
-    (λ c κs. let x = here (c .before .before .before .before .before .before .before) in let loop = c .before .before .before .before .before .before .before .before .loop in let some = c .before .before .before .before .before .before .before .loop-test .taken in (small (loop .inv) some, rw (step-here (c .before .before .before .before .before)) (ranged (loop .inv) some (x .found) (x .size) (x .read)), sym (c .before .before .makes-call .ensures) ∙ c .before .if1 .left))
+    (λ c κs. let x = here (c .before .before .before .before .before .before .before) in let loop = c .before .before .before .before .before .before .before .before .loop in let some = c .before .before .before .before .before .before .before .loop-test .taken in (rw (step-here (c .before .before .before .before .before)) (ranged (loop .inv) some (x .found) (x .size) (x .read)), sym (c .before .before .makes-call .ensures) ∙ c .before .if1 .left))
     (λ c κs. search needs)
     (λ c. let x = here (c .before .before .before .before .before .before .before .before .before) in has-room (c .before .before .before .before .before .before .before .before .before .before .loop .inv) (c .before .before .before .before .before .before .before .before .before .loop-test .taken) (x .found) (x .size) (x .read))
     (λ c. let x = here (c .before .before .before .before .before .before) in omega (arith, size-here (c .before .before), fits (c .before .before .before .before .before .before .before .loop .inv) (c .before .before .before .before .before .before .loop-test .taken) (x .found) (x .size) (x .read)))

@@ -23,5 +23,5 @@ crash-spec =
     (λ c. search needs)
     (λ c κs. search needs)
     (λ c κs. search needs)
-    (λ c. rw (c .before .before .before .before .before .if1 .taken) (reads _ 0 _ _ _ (lit< tt) (λ n v d p. coordinatorGoes (Coordinator.onCrash d)) (rw (c .before .crash .ensures, c .before .before .before .coordinator .ensures) at (c .coordinator-goes .ensures))))
-    (λ c. let start = c .before .before .before .before .before .before in numbered _ (λ p r. step r (Step.Crash p)) _ _ _ _ (omega arith) (reads _ (start .args .p - 1) _ _ _ (omega (arith, start .pre .1)) (λ n v d p. participantGoes (start .args .p - 1) (Participant.onCrash p)) (under _ _ _ _ _ (rw (c .before .crash2 .ensures, c .before .before .before .participant-at .ensures) at (c .participant-goes .ensures))))))
+    (λ c. rw (c .before .before .before .before .before .if1 .taken) (reads _ 0 _ _ _ (lit< tt) (λ all v d p. coordinatorGoes (Coordinator.onCrash d)) (rw (c .before .crash .ensures, c .before .before .before .coordinator .ensures) at (c .coordinator-goes .ensures))))
+    (λ c. let start = c .before .before .before .before .before .before in numbered _ (λ p r. step r (Step.Crash p)) _ _ _ _ (omega arith) (reads _ (start .args .p - 1) _ _ _ (omega (arith, start .pre)) (λ all v d p. participantGoes (start .args .p - 1) (Participant.onCrash p)) (under _ _ _ _ _ (rw (c .before .crash2 .ensures, c .before .before .before .participant-at .ensures) at (c .participant-goes .ensures))))))

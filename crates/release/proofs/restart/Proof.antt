@@ -23,5 +23,5 @@ restart-spec =
     (λ c. search needs)
     (λ c κs. search needs)
     (λ c κs. search needs)
-    (λ c. rw (c .before .before .before .before .before .if1 .taken) (reads _ 0 _ _ _ (lit< tt) (λ n v d p. coordinatorGoes (Coordinator.onRestart d)) (rw (c .before .restart .ensures, c .before .before .before .coordinator .ensures) at (c .coordinator-goes .ensures))))
-    (λ c. let start = c .before .before .before .before .before .before in numbered _ (λ p r. step r (Step.Restart p)) _ _ _ _ (omega arith) (reads _ (start .args .p - 1) _ _ _ (omega (arith, start .pre .1)) (λ n v d p. participantGoes (start .args .p - 1) (Participant.onRestart p)) (under _ _ _ _ _ (rw (c .before .restart2 .ensures, c .before .before .before .participant-at .ensures) at (c .participant-goes .ensures))))))
+    (λ c. rw (c .before .before .before .before .before .if1 .taken) (reads _ 0 _ _ _ (lit< tt) (λ all v d p. coordinatorGoes (Coordinator.onRestart d)) (rw (c .before .restart .ensures, c .before .before .before .coordinator .ensures) at (c .coordinator-goes .ensures))))
+    (λ c. let start = c .before .before .before .before .before .before in numbered _ (λ p r. step r (Step.Restart p)) _ _ _ _ (omega arith) (reads _ (start .args .p - 1) _ _ _ (omega (arith, start .pre)) (λ all v d p. participantGoes (start .args .p - 1) (Participant.onRestart p)) (under _ _ _ _ _ (rw (c .before .restart2 .ensures, c .before .before .before .participant-at .ensures) at (c .participant-goes .ensures))))))

@@ -14,4 +14,4 @@ start-spec =
     (λ c κs. search needs)
     (λ c κs. search needs)
     (λ c κs. search needs)
-    (λ c. reads _ 0 _ _ _ (lit< tt) (λ n v d p. coordinatorGoes (Coordinator.onStart d)) (rw (c .before .start .ensures, c .before .before .before .coordinator .ensures) at (c .coordinator-goes .ensures))))
+    (λ c. reads _ 0 _ _ _ (lit< tt) (λ all v d p. coordinatorGoes (Coordinator.onStart d)) (rw (c .before .start .ensures, c .before .before .before .coordinator .ensures) at (c .coordinator-goes .ensures))))

@@ -7,6 +7,7 @@ use native.Mathlib.Omega.{arith}
 use types.Run.{OneOf, miss}
 use denote.Enum as enum
 use borrow.Author.Needs.{needs}
+use Rattle.store.specs.Log.{places}
 use Rattle.rules.specs.Step.{step}
 use Rattle.rules.proofs.Bounds.{bounds}
 use Rattle.kind.proofs.Step as declared
@@ -36,12 +37,12 @@ with-call-spec =
     tie.close
     (tie.spec
     (λ c. search needs)
-    (λ c. let start = c .before .before .before .before in let r = rw (c .before .before .s .given .1) at (bounds (start .args .n) (start .args .s) (start .pre .1)) in r .1)
-    (λ c κs. let start = c .before .before .before .before in let r = rw (c .before .before .s .given .1) at (bounds (start .args .n) (start .args .s) (start .pre .1)) in (start .pre .0, omega (arith, r .0, start .pre .0), omega (arith, r .1, r .2, start .pre .0), start .pre .2))
+    (λ c. let start = c .before .before .before .before in let r = rw (c .before .before .s .given .1) at (bounds places (start .args .s) (start .pre .0)) in r .1)
+    (λ c κs. let start = c .before .before .before .before in let r = rw (c .before .before .s .given .1) at (bounds places (start .args .s) (start .pre .0)) in (r .0, omega (arith, r .1, r .2), start .pre .1))
     (λ c. search needs)
-    (λ c. let start = c .before .before .before .before in let r = rw (c .before .before .s2 .given .1) at (bounds (start .args .n) (start .args .s) (start .pre .1)) in r .1)
-    (λ c κs. let start = c .before .before .before .before in let r = rw (c .before .before .s2 .given .1) at (bounds (start .args .n) (start .args .s) (start .pre .1)) in (start .pre .0, omega (arith, r .0, start .pre .0), omega (arith, r .1, r .2, start .pre .0), start .pre .2))
+    (λ c. let start = c .before .before .before .before in let r = rw (c .before .before .s2 .given .1) at (bounds places (start .args .s) (start .pre .0)) in r .1)
+    (λ c κs. let start = c .before .before .before .before in let r = rw (c .before .before .s2 .given .1) at (bounds places (start .args .s) (start .pre .0)) in (r .0, omega (arith, r .1, r .2), start .pre .1))
     (λ c κs. search needs)
-    (λ c. let start = c .before .before .before .before .before in let r = rw (c .before .before .before .s .given .1) at (bounds (start .args .n) (start .args .s) (start .pre .1)) in rw (c .before .before .before .s .given .1) (numbered-log _ (λ q r. step r (Step.Call (c .before .before .before .s .given .0 .0) q)) _ _ _ _ _ _ _ (r .1) (c .calls .ensures)))
-    (λ c. let start = c .before .before .before .before .before in let r = rw (c .before .before .before .s2 .given .1) at (bounds (start .args .n) (start .args .s) (start .pre .1)) in rw (c .before .before .before .s2 .given .1) (numbered-log _ (λ q r. step r (Step.CallLost (c .before .before .before .s2 .given .0 .0) q)) _ _ _ _ _ _ _ (r .1) (c .calls2 .ensures)))
-    (λ c. let start = c .before .before in absurd (true≢false (sym (start .pre .3) ∙ no-call (start .args .s) (c .before .match .keys3)))))
+    (λ c. let start = c .before .before .before .before .before in let r = rw (c .before .before .before .s .given .1) at (bounds places (start .args .s) (start .pre .0)) in rw (c .before .before .before .s .given .1) (numbered-log _ (λ q r. step r (Step.Call (c .before .before .before .s .given .0 .0) q)) _ _ _ _ _ _ _ (r .1) (c .calls .ensures)))
+    (λ c. let start = c .before .before .before .before .before in let r = rw (c .before .before .before .s2 .given .1) at (bounds places (start .args .s) (start .pre .0)) in rw (c .before .before .before .s2 .given .1) (numbered-log _ (λ q r. step r (Step.CallLost (c .before .before .before .s2 .given .0 .0) q)) _ _ _ _ _ _ _ (r .1) (c .calls2 .ensures)))
+    (λ c. let start = c .before .before in absurd (true≢false (sym (start .pre .2) ∙ no-call (start .args .s) (c .before .match .keys3)))))

@@ -10,7 +10,7 @@ pub validate-from-spec : {M : Type 1} → statement M
 validate-from-spec =
     tie.close
     (tie.spec
-    (λ c. let args = c .before .before .args in sym (ap validated (read-long (args .refusal) (args .header) (args .rest .now) (c .if1 .taken))))
-    (λ c. let args = c .before .before .before .args in sym (ap validated (read-refused (args .refusal) (args .header) (args .rest .now) (c .before .if1 .left) (c .if2 .taken))))
+    (λ c. let args = c .before .before .args in sym (ap validated (read-long (args .refusal) (args .context .header) (args .rest .now) (c .if1 .taken))))
+    (λ c. let args = c .before .before .before .args in sym (ap validated (read-refused (args .refusal) (args .context .header) (args .rest .now) (c .before .if1 .left) (c .if2 .taken))))
     (λ c κs. search needs)
-    (λ c. let args = c .before .before .before .before .args in c .count-steps .ensures ∙ sym (ap validated (read-steps (args .refusal) (args .header) (args .rest .now) (c .before .before .if1 .left) (c .before .if2 .left)))))
+    (λ c. let args = c .before .before .before .before .args in c .count-steps .ensures ∙ sym (ap validated (read-steps (args .refusal) (args .context .header) (args .rest .now) (c .before .before .if1 .left) (c .before .if2 .left)))))

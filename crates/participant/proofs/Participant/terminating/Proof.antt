@@ -10,6 +10,5 @@ terminating-spec =
     tie.close
     (tie.spec
     (λ c κs. search needs)
-    (λ c κs. search needs)
-    (λ c. simp (eq-eqb _ _ (sym (c .before .before .insert .ensures) ∙ c .if1 .taken ∙ c .before .full .ensures)))
-    (λ c. simp (ne-eqb _ _ (λ e. c .if1 .left (c .before .before .insert .ensures ∙ e ∙ sym (c .before .full .ensures))))))
+    (λ c. simp (eq-eqb _ _ (sym (c .before .insert .ensures) ∙ c .if1 .taken)))
+    (λ c. simp (ne-eqb _ _ (λ e. c .if1 .left (c .before .insert .ensures ∙ e)))))

@@ -1,4 +1,6 @@
 -- `schedule::Record::in_range` meets its contract, case by case. Assumes nothing.
+use Rattle.schedule.specs.Record.{recordHeader}
+use Rattle.schedule.proofs.WithMask.{context-ranged}
 use borrow.Author.Needs.{needs}
 use Rattle.schedule.proofs.Record.in_range.Statement.{statement}
 use Rattle.schedule.proofs.Record.in_range.Tie as tie
@@ -11,5 +13,6 @@ in-range-spec =
     (λ c κs. search needs)
     (λ c κs. search needs)
     (λ c κs. search needs)
-    (λ c. simp (c .in-range .ensures, c .before .header .ensures, c .before .before .if1 .taken, ← c .before .before .before .is-header .ensures))
+    (λ c κs. search needs)
+    (λ c. simp (c .in-range .ensures, c .before .context .ensures, c .before .before .header .ensures, c .before .before .before .if1 .taken, ← c .before .before .before .before .is-header .ensures) (context-ranged (recordHeader (c .before .before .before .before .before .args .self))))
     (λ c. simp (← c .numbers-in-range .ensures, c .before .if1 .left, ← c .before .before .is-header .ensures)))

@@ -1,7 +1,9 @@
 -- `schedule::reader::read_step` meets its contract, case by case. Assumes nothing.
-use mathlib.Core.Path.{sym, _∙_}
-use Rattle.schedule.specs.Types.{Before}
-use Rattle.schedule.proofs.Tests.{found-refused, found-known}
+use mathlib.Core.Path.{sym, ap, _∙_}
+use Rattle.schedule.specs.Types.{Before, Record}
+use Rattle.schedule.specs.Reader.{ranged}
+use Rattle.schedule.specs.Context.{inRangeWith, foundWith}
+use Rattle.schedule.proofs.Tests.{found-known}
 use borrow.Author.Needs.{needs}
 use Rattle.schedule.proofs.reader.read_step.Statement.{statement}
 use Rattle.schedule.proofs.reader.read_step.Tie as tie
@@ -14,9 +16,9 @@ read-step-spec =
     (λ c. search needs)
     (λ c. search needs)
     (λ c κs. search needs)
-    (λ c κs. found-known (c .before .before .before .before .before .before .before .args .bytes .now) (Before.Header (c .before .before .before .before .before .before .before .args .h)) _ (sym (c .before .before .before .before .before .kind-at .ensures) ∙ c .before .before .before .kind .given .1) .1)
+    (λ c κs. found-known (c .before .before .before .before .before .before .before .args .bytes .now) (Before.Header (c .before .before .before .before .before .before .before .args .c .header)) _ (sym (c .before .before .before .before .before .kind-at .ensures) ∙ c .before .before .before .kind .given .1) .1)
     (λ c κs. search needs)
     (λ c κs. search needs)
-    (λ c. found-refused (c .before .before .before .before .before .args .bytes .now) (Before.Header (c .before .before .before .before .before .args .h)) _ (sym (c .before .before .before .kind-at .ensures) ∙ c .before .k .given .1))
-    (λ c. sym (found-known (c .before .before .before .before .before .before .before .args .bytes .now) (Before.Header (c .before .before .before .before .before .before .before .args .h)) _ (sym (c .before .before .before .before .before .kind-at .ensures) ∙ c .before .before .before .kind .given .1) .0 ∙ simp (sym (c .before .is-header .ensures) ∙ c .if1 .taken)))
-    (λ c. c .ranged .ensures ∙ (simp (c .before .in-range-under .ensures, c .before .before .record-at .ensures, sym (c .before .before .before .before .is-header .ensures) ∙ c .before .before .before .if1 .left)) ∙ sym (found-known (c .before .before .before .before .before .before .before .before .before .before .args .bytes .now) (Before.Header (c .before .before .before .before .before .before .before .before .before .before .args .h)) _ (sym (c .before .before .before .before .before .before .before .before .kind-at .ensures) ∙ c .before .before .before .before .before .before .kind .given .1) .0)))
+    (λ c. let args = c .before .before .before .before .before .args in sym (ap (foundWith (args .bytes .now) (args .c)) (sym (c .before .before .before .kind-at .ensures) ∙ c .before .k .given .1)))
+    (λ c. let args = c .before .before .before .before .before .before .before .args in sym (ap (foundWith (args .bytes .now) (args .c)) (sym (c .before .before .before .before .before .kind-at .ensures) ∙ c .before .before .before .kind .given .1) ∙ simp (sym (c .before .is-header .ensures) ∙ c .if1 .taken)))
+    (λ c. let args = c .before .before .before .before .before .before .before .before .before .before .args in c .ranged .ensures ∙ ap (ranged _) (c .before .in-range-with .ensures) ∙ ap (λ (r : Record). ranged r (inRangeWith (args .c) r)) (c .before .before .record-at .ensures) ∙ sym (ap (foundWith (args .bytes .now) (args .c)) (sym (c .before .before .before .before .before .before .before .before .kind-at .ensures) ∙ c .before .before .before .before .before .before .kind .given .1) ∙ simp (sym (c .before .before .before .before .is-header .ensures) ∙ c .before .before .before .if1 .left))))

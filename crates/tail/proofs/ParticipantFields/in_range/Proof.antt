@@ -12,6 +12,6 @@ in-range-spec =
     (λ c κs. search needs)
     (λ c κs. search needs)
     (λ c κs. search needs)
-    (λ c. simp (c .records-in-range .ensures, sym (c .before .before .numbers-in-range .ensures) ∙ c .before .if2 .taken, lt-ltb _ _ (c .before .before .before .if1 .taken)))
-    (λ c. simp (sym (c .before .numbers-in-range .ensures) ∙ c .if2 .left, lt-ltb _ _ (c .before .before .if1 .taken)))
+    (λ c. simp (c .records-in-range .ensures, ← c .before .before .before .before .pre .0, sym (c .before .before .numbers-in-range .ensures) ∙ c .before .if2 .taken, lt-ltb _ _ (c .before .before .before .if1 .taken)))
+    (λ c. simp (← c .before .before .before .pre .0, sym (c .before .numbers-in-range .ensures) ∙ c .if2 .left, lt-ltb _ _ (c .before .before .if1 .taken)))
     (λ c. simp (c .zero .ensures, le-ltb _ _ (c .before .if1 .left))))

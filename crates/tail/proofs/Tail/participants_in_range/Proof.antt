@@ -3,6 +3,7 @@ use mathlib.Core.Path.{_≡_, refl, sym, _∙_}
 use mathlib.Core.Bool.{true}
 use Prim.Native.Nat.{_-_, _≤_}
 use native.Mathlib.Omega.{arith}
+use Rattle.mask.specs.Mask.{full}
 use Rattle.store.specs.Log.{places}
 use borrow.Author.Needs.{needs}
 use Rattle.number.specs.Table.{every}
@@ -12,10 +13,10 @@ use Rattle.tail.proofs.Tail.participants_in_range.Statement.{statement}
 use Rattle.tail.proofs.Tail.participants_in_range.Tie as tie
 
 abbrev Inv-loop : tie.InvT-loop
-Inv-loop self n i₀ i = (i ≤ places) × (n ≡ self .n) × (self .n ≤ 32) × (every (λ j. participantInRange (self .n) j (fieldsAt self j)) i ≡ true)
+Inv-loop all self n i₀ i = (i ≤ places) × (n ≡ self .n) × (all ≡ full (self .n)) × (every (λ j. participantInRange (self .n) j (fieldsAt self j)) i ≡ true)
 
 abbrev μ-loop : tie.MeasureT-loop
-μ-loop self n i₀ i = places - i
+μ-loop all self n i₀ i = places - i
 
 loop-holds : tie.Need-loop-holds Inv-loop μ-loop
 unfolding every

@@ -10,5 +10,5 @@ parties-in-range-spec =
     (tie.spec
     (λ c κs. search needs)
     (λ c κs. search needs)
-    (λ c. simp (c .participants-in-range .ensures, sym (c .before .before .numbers-in-range .ensures) ∙ c .before .if1 .taken))
-    (λ c. simp (sym (c .before .numbers-in-range .ensures) ∙ c .if1 .left)))
+    (λ c. simp (c .participants-in-range .ensures, ← c .before .before .before .pre, sym (c .before .before .numbers-in-range .ensures) ∙ c .before .if1 .taken))
+    (λ c. simp (← c .before .before .pre, sym (c .before .numbers-in-range .ensures) ∙ c .if1 .left)))
