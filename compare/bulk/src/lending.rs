@@ -1,5 +1,6 @@
-//! The entries that write a report, a listing or a tail into a lent buffer: what both sides answer,
-//! the lengths of the buffers, and the smallest input found on which the sides differ.
+//! The entries that write a report, a listing, a tail or a class's figures into a lent buffer: what
+//! both sides answer, the lengths of the buffers, and the smallest input found on which the sides
+//! differ.
 
 use crate::difference::{schedule_words, tail_words, Difference};
 use crate::figures::Numbers;
@@ -15,7 +16,11 @@ const SHORT: usize = 700;
 /// How often the tail is reduced after the steps.
 const ROUNDS: u32 = 2;
 
-/// An entry with what it is handed beside the buffer: a schedule, a tail, or a tail and steps.
+/// The text of a class file takes fewer characters.
+const CLASS_TEXT: usize = 200;
+
+/// An entry with what it is handed beside the buffer: a schedule, a tail, a tail and steps, or a
+/// class file.
 #[derive(Clone, Copy)]
 pub enum Entry<'a> {
     Run(&'a [u8]),
@@ -23,6 +28,7 @@ pub enum Entry<'a> {
     Move(&'a [u8]),
     RunFrom(&'a [u8], &'a [u8]),
     ListingFrom(&'a [u8], &'a [u8]),
+    Class(&'a [u8]),
 }
 
 impl Entry<'_> {
@@ -52,6 +58,7 @@ impl Entry<'_> {
             Entry::Move(_) => TAIL + 2,
             // A step's line takes at most 20 characters, the last two lines at most 400.
             Entry::Listing(bytes) | Entry::ListingFrom(_, bytes) => 20 * bytes.len() + 400,
+            Entry::Class(_) => CLASS_TEXT,
         }
     }
 
@@ -68,6 +75,7 @@ impl Entry<'_> {
             Entry::Move(tail) => proved::move_tail(tail, lent),
             Entry::RunFrom(tail, steps) => proved::run_from(tail, steps, lent),
             Entry::ListingFrom(tail, steps) => proved::list_from(tail, steps, lent),
+            Entry::Class(file) => proved::class(file, lent),
         }
     }
 
@@ -78,6 +86,7 @@ impl Entry<'_> {
             Entry::Move(tail) => second::move_tail(tail, lent),
             Entry::RunFrom(tail, steps) => second::run_from(tail, steps, lent),
             Entry::ListingFrom(tail, steps) => put_text(&second::listing_from(tail, steps), lent),
+            Entry::Class(file) => second::put_class_text(file, lent),
         }
     }
 
@@ -144,10 +153,10 @@ impl Entry<'_> {
         }
     }
 
-    /// The tail, and the schedule or steps; where there is none, no bytes.
+    /// The tail, and the schedule, steps or file; where there is none, no bytes.
     fn handed(&self) -> (&[u8], &[u8]) {
         match *self {
-            Entry::Run(bytes) | Entry::Listing(bytes) => (&[], bytes),
+            Entry::Run(bytes) | Entry::Listing(bytes) | Entry::Class(bytes) => (&[], bytes),
             Entry::Move(tail) => (tail, &[]),
             Entry::RunFrom(tail, bytes) | Entry::ListingFrom(tail, bytes) => (tail, bytes),
         }
@@ -161,25 +170,26 @@ impl Entry<'_> {
             Entry::Move(_) => Entry::Move(tail),
             Entry::RunFrom(..) => Entry::RunFrom(tail, bytes),
             Entry::ListingFrom(..) => Entry::ListingFrom(tail, bytes),
+            Entry::Class(_) => Entry::Class(bytes),
         }
     }
 
     pub fn words(self, length: usize) -> String {
-        let (name, has_tail, has_bytes) = match self {
-            Entry::Run(_) => ("run", false, true),
-            Entry::Listing(_) => ("listing", false, true),
-            Entry::Move(_) => ("move", true, false),
-            Entry::RunFrom(..) => ("run from a tail", true, true),
-            Entry::ListingFrom(..) => ("listing from a tail", true, true),
+        let (name, has_tail, bytes_name) = match self {
+            Entry::Run(_) => ("run", false, Some("schedule")),
+            Entry::Listing(_) => ("listing", false, Some("schedule")),
+            Entry::Move(_) => ("move", true, None),
+            Entry::RunFrom(..) => ("run from a tail", true, Some("rest")),
+            Entry::ListingFrom(..) => ("listing from a tail", true, Some("rest")),
+            Entry::Class(_) => ("class", false, Some("file")),
         };
         let (tail, bytes) = self.handed();
         let mut text = format!("{name} with a buffer of {length} bytes");
         if has_tail {
             text += &format!("\ntail of {}", given_tail_words(tail));
         }
-        if has_bytes {
-            let what = if has_tail { "rest" } else { "schedule" };
-            text += &format!("\n{what} of {}", schedule_words(bytes));
+        if let Some(bytes_name) = bytes_name {
+            text += &format!("\n{bytes_name} of {}", schedule_words(bytes));
         }
         text
     }

@@ -6,6 +6,9 @@
 
 mod buffers;
 mod changes;
+mod class_figures;
+mod class_files;
+mod classes;
 mod cuts;
 mod difference;
 mod entries;
@@ -37,10 +40,12 @@ use replay::Programs;
 use second::Form;
 use std::env;
 use std::fmt::Display;
+use std::io;
 use std::process::ExitCode;
 
 const USAGE: &str = "usage: bulk quick | bulk long CASES [SEED] | bulk times ROUNDS | \
-    bulk frames short|longest|terminations|short-wide|terminations-wide";
+    bulk frames short|longest|terminations|short-wide|terminations-wide | \
+    bulk class headers|wide-headers|short|longest";
 const SEED: u64 = 20_260_101;
 /// How many random schedules the quick form has.
 const QUICK: usize = 300_000;
@@ -48,7 +53,8 @@ const QUICK: usize = 300_000;
 fn main() -> ExitCode {
     let words: Vec<String> = env::args().skip(1).collect();
     match words.iter().map(String::as_str).collect::<Vec<&str>>()[..] {
-        ["frames", job] => return write_frames(job),
+        ["frames", job] => return written(frames::write(job)),
+        ["class", job] => return written(class_files::write(job)),
         ["times", rounds] => return print_times(rounds),
         _ => (),
     }
@@ -72,9 +78,10 @@ fn main() -> ExitCode {
     }
 }
 
-/// The frames that `bench/run` times programs on.
-fn write_frames(job: &str) -> ExitCode {
-    match frames::write(job) {
+/// How the program ends that wrote the frames or the class file of a job, on which programs are
+/// timed; there may be no job of that name.
+fn written(outcome: Option<io::Result<()>>) -> ExitCode {
+    match outcome {
         Some(Ok(())) => ExitCode::SUCCESS,
         Some(Err(error)) => {
             eprintln!("bulk: {error}");
@@ -120,7 +127,9 @@ fn compare(cases: usize, seed: u64) -> Compared {
     let narrow = compare_narrow(cases, seed)?;
     let wide = compare_wide(cases / 3, seed)?;
     let moves = compare_moves(cases, seed)?;
-    Ok((narrow.0 + wide.0 + moves.0, narrow.1 + wide.1 + moves.1))
+    let classes = compare_classes(cases, seed)?;
+    let schedules = narrow.0 + wide.0 + moves.0 + classes.0;
+    Ok((schedules, narrow.1 + wide.1 + moves.1 + classes.1))
 }
 
 /// The groups of narrow schedules, and of the entries that know no header.
@@ -174,6 +183,21 @@ fn compare_moves(cases: usize, seed: u64) -> Compared {
     let buffers = shown("25, moves and runs from a tail into lent buffers", buffers)?;
     let tails = [&damaged, &lengths, &rests, &buffers].map(|figures| figures.calls());
     Ok((cuts.schedules(), cuts.calls() + tails.iter().sum::<u64>()))
+}
+
+/// The groups of class files. Their schedules are not compared one by one, so that each file is a
+/// call and no schedule.
+fn compare_classes(cases: usize, seed: u64) -> Compared {
+    let random = shown("31, class files", classes::random(seed, cases / 50))?;
+    let damaged = classes::damaged(seed, cases / 10);
+    let damaged = shown("32, damaged class files", damaged)?;
+    let limits = classes::about_the_limit(&Programs::find(), seed);
+    let limits = shown("33, class files about the greatest length", limits)?;
+    let texts = classes::texts(seed, cases / 500);
+    let texts = shown("34, class files into lent texts", texts)?;
+    let every = shown("35, every short class file", classes::every())?;
+    let files = [&random, &damaged, &limits, &texts, &every].map(|figures| figures.calls());
+    Ok((0, files.iter().sum()))
 }
 
 /// Prints the group's figures, or names the group that has the difference.

@@ -35,6 +35,7 @@ extern "C" {
         text: *mut u8,
         text_len: usize,
     ) -> u64;
+    fn compare_class(file: *const u8, file_len: usize, text: *mut u8, text_len: usize) -> u64;
     fn compare_write(
         buffer: *mut u8,
         buffer_len: usize,
@@ -99,6 +100,10 @@ pub fn list_from(tail: &[u8], steps: &[u8], text: &mut [u8]) -> u64 {
     let (bytes, length) = (tail.as_ptr(), tail.len());
     let (text, text_len) = (text.as_mut_ptr(), text.len());
     unsafe { compare_list_from(bytes, length, steps.as_ptr(), steps.len(), text, text_len) }
+}
+
+pub fn class(file: &[u8], text: &mut [u8]) -> u64 {
+    unsafe { compare_class(file.as_ptr(), file.len(), text.as_mut_ptr(), text.len()) }
 }
 
 /// The three numbers are the kind and the body's two numbers.

@@ -1,5 +1,5 @@
-//! The programs `replay` and `mark`: what they print for an input. `replay` gets its frames from a
-//! thread while its lines are read, since it may print before it has read everything.
+//! The programs `replay`, `mark` and `class`: what they print for an input. `replay` gets its frames
+//! from a thread while its lines are read, since it may print before it has read everything.
 
 use std::env;
 use std::io::{self, Read, Write};
@@ -10,6 +10,7 @@ use std::thread;
 pub struct Programs {
     replay: PathBuf,
     mark: PathBuf,
+    class: PathBuf,
 }
 
 /// What a program printed, and how it ended.
@@ -19,14 +20,23 @@ pub struct Printed {
 }
 
 impl Programs {
-    /// The programs of the repository; `mark` stands beside `replay`.
+    /// The programs of the repository; `mark` stands beside `replay`, and so does `class` unless it
+    /// is named.
     pub fn find() -> Programs {
         let replay = match env::var_os("KOKUMSPAR_REPLAY") {
             Some(path) => PathBuf::from(path),
             None => Path::new(env!("CARGO_MANIFEST_DIR")).join("../../target/bin/replay"),
         };
         let mark = replay.with_file_name("mark");
-        Programs { replay, mark }
+        let class = match env::var_os("KOKUMSPAR_CLASS") {
+            Some(path) => PathBuf::from(path),
+            None => replay.with_file_name("class"),
+        };
+        Programs {
+            replay,
+            mark,
+            class,
+        }
     }
 
     pub fn replay(&self, input: &[u8]) -> Printed {
@@ -35,6 +45,10 @@ impl Programs {
 
     pub fn mark(&self, schedule: &[u8]) -> Printed {
         printed(&self.mark, schedule)
+    }
+
+    pub fn class(&self, file: &[u8]) -> Printed {
+        printed(&self.class, file)
     }
 }
 

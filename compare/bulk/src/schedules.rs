@@ -423,6 +423,12 @@ pub fn schedule_of_length(random: &mut Random, form: Form, length: usize) -> Vec
     filled(random, run, bytes, length)
 }
 
+/// A random schedule under this header of just this many bytes, in which participants wait too long.
+pub fn schedule_under(random: &mut Random, header: Header, length: usize) -> Vec<u8> {
+    let run = Run::terminating(header);
+    filled(random, run, header_bytes(header), length)
+}
+
 /// Random steps from a state, of just this many bytes.
 pub fn rest_of_length(random: &mut Random, tail: &Tail, length: usize) -> Vec<u8> {
     let run = Run::from_tail(random, tail);

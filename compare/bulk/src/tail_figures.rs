@@ -42,7 +42,8 @@ impl TailFigures {
 
     fn numbers(&mut self, entry: Entry) -> &mut Numbers {
         match entry {
-            Entry::Run(_) | Entry::Listing(_) => &mut self.run,
+            // Class files come with no tail, and have figures of their own.
+            Entry::Run(_) | Entry::Listing(_) | Entry::Class(_) => &mut self.run,
             Entry::Move(_) => &mut self.moves,
             Entry::RunFrom(..) => &mut self.run_from,
             Entry::ListingFrom(..) => &mut self.listing_from,

@@ -1,8 +1,12 @@
-//! The times of the entries that no program runs in a loop: moves, and runs from a tail. Both sides
-//! take turns at the same calls, and the ratio of their median times is printed. The proved side is
-//! the archive `export`, which no compiler has put together with its caller, as it does in a
-//! program; so runs of whole schedules are timed in the same way, to be compared with.
+//! The times of the entries that no program runs in a loop: moves, runs from a tail, and figures of
+//! class files. Both sides take turns at the same calls, and the ratio of their median times is
+//! printed. The proved side is the archive `export`, which no compiler has put together with its
+//! caller, as it does in a program; so runs of whole schedules are timed in the same way, to be
+//! compared with.
 
+use crate::class_files::{
+    longest_of_headers, longest_of_one_schedule, longest_of_short_schedules, FORMS,
+};
 use crate::lent::packed;
 use crate::proved;
 use crate::random::Random;
@@ -13,7 +17,7 @@ use std::time::Instant;
 
 const SEED: u64 = 20_260_101;
 
-/// A tail and the steps that go on from it; or no tail, and a schedule.
+/// A tail and the steps that go on from it; or no tail, and a schedule or a class file.
 type Start = (Vec<u8>, Vec<u8>);
 
 /// An entry on one side, with its input and the lent buffer.
@@ -34,6 +38,29 @@ pub fn print(rounds: usize) {
     let longest = inputs(100, || longest_rest(&mut random));
     let name = "a thousand runs of 32,768 bytes from a tail";
     job(name, &longest, rounds, RUN_FROM);
+    print_classes(&mut random, rounds);
+}
+
+/// Class files about the greatest length, a thousand calls each.
+fn print_classes(random: &mut Random, rounds: usize) {
+    for (form, name) in FORMS
+        .into_iter()
+        .zip(["10,922 headers 01", "5,461 headers 0B"])
+    {
+        let files = inputs(100, || (Vec::new(), longest_of_headers(form)));
+        job(&class_name(name), &files, rounds, CLASS);
+    }
+    let files = inputs(100, || (Vec::new(), longest_of_short_schedules(random)));
+    job(&class_name("short schedules"), &files, rounds, CLASS);
+    for (form, name) in FORMS.into_iter().zip(["n = 8", "n = 32"]) {
+        let files = inputs(100, || (Vec::new(), longest_of_one_schedule(random, form)));
+        let name = class_name(&format!("one schedule, {name}"));
+        job(&name, &files, rounds, CLASS);
+    }
+}
+
+fn class_name(what: &str) -> String {
+    format!("a thousand class files of {what}")
 }
 
 fn inputs(count: usize, input: impl FnMut() -> Start) -> Vec<Start> {
@@ -78,6 +105,11 @@ const MOVE: [Side; 2] = [
 const RUN_FROM: [Side; 2] = [
     |(tail, rest), lent| proved::run_from(tail, rest, lent),
     |(tail, rest), lent| packed(second::run_from(tail, rest, lent)),
+];
+
+const CLASS: [Side; 2] = [
+    |(_, file), lent| proved::class(file, lent),
+    |(_, file), lent| packed(second::put_class_text(file, lent)),
 ];
 
 /// Prints the median times of both sides and their ratio. A thousand inputs are each called a thousand

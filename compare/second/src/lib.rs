@@ -1,8 +1,9 @@
-//! A second implementation of document 01 with requests 2026-01 to 2026-04: the store, the
-//! participant, the coordinator, the reader and writer of schedules, the marker that runs a
-//! schedule of one release or goes on from a tail, the move of a tail to the wide form, and the host
-//! entry.
+//! A second implementation of document 01 with requests 2026-01 to 2026-04 and 2026-06: the store,
+//! the participant, the coordinator, the reader and writer of schedules, the marker that runs a
+//! schedule of one release or goes on from a tail, the move of a tail to the wide form, the figures
+//! of a class file, and the host entry. Request 2026-05 changes no answer.
 
+mod class;
 mod coordinator;
 mod form;
 mod host;
@@ -20,6 +21,7 @@ mod schedule;
 mod store;
 mod tail;
 
+pub use class::{class_figures, class_text, put_class_text, ClassFigures};
 pub use form::Form;
 pub use host::host_step;
 pub use listing::{listing, listing_from};

@@ -25,7 +25,7 @@ fn lines_of_run(form: Form, run: impl FnOnce(&mut [u8]) -> Result<usize, Refusal
     // A step takes at least one byte, so no report is longer.
     let mut buffer = vec![0; MOST_BYTES + Form::Wide.tail_length()];
     match run(&mut buffer) {
-        Err(refusal) => format!("refused {} at {}\n", refusal.number, refusal.value),
+        Err(refusal) => refusal.line(),
         Ok(length) => report_lines(form, &buffer[..length]),
     }
 }

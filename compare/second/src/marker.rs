@@ -8,7 +8,7 @@ use crate::report;
 use crate::schedule::{read_record, read_step, AcceptedRecords, MOST_BYTES};
 use crate::tail::Tail;
 
-const LENGTH_REFUSED: Refusal = Refusal {
+pub(crate) const LENGTH_REFUSED: Refusal = Refusal {
     number: EMPTY_OR_TOO_LONG,
     value: 0,
 };

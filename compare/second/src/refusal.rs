@@ -23,3 +23,10 @@ pub struct Refusal {
     pub number: u32,
     pub value: usize,
 }
+
+impl Refusal {
+    /// The line that a program prints for it, ended by a newline.
+    pub(crate) fn line(self) -> String {
+        format!("refused {} at {}\n", self.number, self.value)
+    }
+}

@@ -152,6 +152,22 @@ pub fn read_step(bytes: &[u8], n: u32) -> Result<(Record, usize), u32> {
     Ok((record, length))
 }
 
+/// A record inside a class file and its length, or the refusal's number: a header, which begins the
+/// next schedule there, or a step under a header in range that has this n.
+#[inline]
+pub fn read_header_or_step(bytes: &[u8], n: u32) -> Result<(Record, usize), u32> {
+    let (record, length) = first_record(bytes)?;
+    let in_range = if is_header(record.kind) {
+        record.header().is_in_range()
+    } else {
+        record.is_step_in_range(n)
+    };
+    if !in_range {
+        return Err(OUT_OF_RANGE);
+    }
+    Ok((record, length))
+}
+
 /// The record that the bytes begin with, whatever its numbers, and its length; or the refusal's
 /// number.
 #[inline]

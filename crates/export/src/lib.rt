@@ -15,6 +15,7 @@ use schedule::reader::read_record;
 use store::EntryAnswer;
 use store::LogPair;
 use store::LogRecord;
+use summary::summarize;
 use writer::Written;
 use writer::write_record;
 ghost use mathlib.Core.Path.{_≡_};
@@ -26,6 +27,7 @@ ghost use Rattle.schedule.specs.Reader.{readerAnswers};
 ghost use Rattle.writer.specs.Writer.{writtenHands, writerHands, writerLeaves};
 ghost use Rattle.marker.specs.Run.{runHands, runLeaves};
 ghost use Rattle.listing.specs.Listing.{listHands, listLeaves};
+ghost use Rattle.summary.specs.Summary.{summaryHands, summaryLeaves};
 ghost use Rattle.export.specs.Packed.{packed, fourBytes, sevenBytes, readPacked, answerPacked, entryPacked, beforeOf, pairOf};
 
 // A refusal's number or 0 in the upper 32 bits, what is handed over with it in the lower ones.
@@ -147,6 +149,14 @@ pub extern "C" fn compare_list(schedule: &[u8], text: &mut [u8]) -> u64
         × (now (text .exit) ≡ listLeaves (now (text .entry)) (now (schedule .entry))) ⌝ }
 {
     pack_written(list(schedule, text))
+}
+
+#[no_mangle]
+pub extern "C" fn compare_class(file: &[u8], text: &mut [u8]) -> u64
+    ensures { λ x. ⌜ (x ≡ packed (summaryHands (length (now (text .entry))) (now (file .entry))))
+        × (now (text .exit) ≡ summaryLeaves (now (text .entry)) (now (file .entry))) ⌝ }
+{
+    pack_written(summarize(file, text))
 }
 
 #[no_mangle]

@@ -22,10 +22,6 @@ use Rattle.lines.specs.Lines.{outcomeText, closedText, byteText, byteLin
 abbrev pub linesFrom : List ℕ → ℕ → List ℕ
 linesFrom bytes i = byteLines (suc i) (drop i bytes)
 
-pub no-lines : byteLines 1 [] ≡ []
-unfolding byteLines
-no-lines = refl
-
 pub word-few : (o : Outcome) → length (outcomeText o) ≤ 7
 word-few Outcome.Idle = omega arith
 word-few Outcome.Moved = omega arith

@@ -1,19 +1,13 @@
 -- A text of `longestText` bytes has room for every listing, as a program with such a buffer needs. Assumes nothing.
-use mathlib.Core.Path.{_≡_, ap, _∙_}
-use mathlib.Core.Bool.{false, cond}
+use mathlib.Core.Path.{ap}
 use mathlib.Core.List.{List}
 use Prim.Native.Nat.{ℕ, suc, _≤_, _<_}
 use native.Mathlib.Omega.{arith}
-use lib.Dec.{ltb}
-use lib.ListN.{length, getD, take, length-append}
-use lib.Seq.{sets, length-sets}
-use borrow.Author.Tests.{le-ltb}
-use Rattle.number.specs.Refusal.{tooShort, wrongLength}
+use lib.ListN.{length, getD, length-append}
+use Rattle.number.specs.Refusal.{wrongLength}
 use Rattle.store.specs.Log.{places}
-use Rattle.text.specs.Put.{Put}
 use Rattle.text.specs.Text.{refusalLine}
 use Rattle.text.proofs.Laws.{decimal-length, refusal-length}
-use Rattle.text.proofs.Putting.{put-front}
 use Rattle.schedule.specs.Record.{longest}
 use Rattle.schedule.specs.Schedule.{Reading, Accepted, Refused, readSchedule, stepsBytes}
 use Rattle.schedule.proofs.Laws.{header-size}
@@ -28,8 +22,8 @@ use Rattle.form.specs.Form.{wide, tailAt}
 use Rattle.start.specs.Start.{mostCalls, startRelease, readFrom}
 use Rattle.start.proofs.Taken.{ranged, few-calls}
 use Rattle.start.proofs.Kept.{RestSays, says}
-use Rattle.listing.specs.Types.{Kind, Step, Header, Release, Written}
-use Rattle.listing.specs.Listing.{stepLines, endLines, readingText, listing, listingFrom, longestText, ListingFits, textAnswer, textLeft}
+use Rattle.listing.specs.Types.{Kind, Step, Header, Release}
+use Rattle.listing.specs.Listing.{stepLines, endLines, readingText, listing, listingFrom, longestText, ListingFits}
 use Rattle.lines.proofs.LineLaws.{lines-few}
 use Rattle.listing.proofs.Laws.{lines-reports, end-few}
 
@@ -74,30 +68,3 @@ from-fits tail bytes = go (readFrom tail bytes) (says tail bytes)
 
 pub listing-fits : ListingFits
 listing-fits = record { whole = whole-fits; from = from-fits }
-
--- In such a text a listing is never refused, and stands at the front. `bytes` are the listing's
-
-module _ (text bytes : List ℕ) (few : length bytes ≤ longestText) (room : longestText ≤ length text) where
-  fits : ltb (length text) (length bytes) ≡ false
-  fits = le-ltb (length text) (length bytes) (omega arith)
-
-  done : textAnswer (length text) bytes ≡ Written.Done (length bytes)
-  done = ap (λ b. cond b (Written.Refused tooShort (length bytes)) (Written.Done (length bytes))) fits
-
-  pub never-refused : (k place : ℕ) → Written.Refused k place ≡ textAnswer (length text) bytes → ⊥
-  never-refused k place answer =
-      let other : Written.Refused k place ≡ Written.Done (length bytes) = answer ∙ done in
-      let z : _≡_ {A = ℕ} 0 1 = cc (other) in
-      omega arith
-
-  pub listed-put : (after : List ℕ) (end : ℕ) → Written.Done end ≡ textAnswer (length text) bytes → after ≡ textLeft text bytes → Put text 0 bytes end after
-  listed-put after end answer left =
-      let same : Written.Done end ≡ Written.Done (length bytes) = answer ∙ done in
-      let long : end ≡ length bytes = cc (same) in
-      record { ends = omega arith; leaves = left ∙ ap (λ b. cond b text (sets text 0 bytes)) fits }
-
-  pub listed-whole : (after : List ℕ) (end : ℕ) → Written.Done end ≡ textAnswer (length text) bytes → after ≡ textLeft text bytes
-      → (end ≤ length after) × (take end after ≡ bytes)
-  listed-whole after end answer left =
-      let put = listed-put after end answer left in
-      (omega (arith, put .ends, ap length (put .leaves) ∙ length-sets text 0 bytes), put-front put (omega arith))

@@ -1,12 +1,10 @@
 -- What is left in a text, by the parts put into it and by what the first pass answered. Assumes nothing.
-use mathlib.Core.Path.{_≡_, refl, sym, ap, _∙_}
+use mathlib.Core.Path.{_≡_, sym, ap, _∙_}
 use mathlib.Core.List.{List, _++_}
-use Prim.Native.Nat.{ℕ, _+_, _≤_, _<_}
+use Prim.Native.Nat.{ℕ, _+_, _≤_}
 use native.Mathlib.Omega.{arith}
 use lib.ListN.{length, take}
 use lib.Seq.{sets}
-use borrow.Author.Tests.{lt-ltb, le-ltb}
-use Rattle.number.specs.Refusal.{tooShort}
 use Rattle.text.specs.Put.{Put}
 use Rattle.text.proofs.Putting.{put-front}
 use Rattle.store.specs.Log.{places}
@@ -18,21 +16,11 @@ use Rattle.state.specs.Fields.{releaseIn}
 use Rattle.passes.specs.Pass.{validated, readingFrom, stepsOf, stepBytes, Ready}
 use Rattle.passes.proofs.Passed.{counted, refused, bytes-length}
 use Rattle.passes.proofs.Begun.{left-calls}
-use Rattle.listing.specs.Types.{Header, Context, Written, Release, Store, Validated}
+use Rattle.listing.specs.Types.{Header, Context, Release, Store, Validated}
 use Rattle.text.specs.Text.{refusalLine}
-use Rattle.listing.specs.Listing.{endLines, readingText, textAnswer, textLeft}
+use Rattle.listing.specs.Listing.{endLines, readingText}
 use Rattle.lines.specs.Lines.{byteLines}
 use Rattle.listing.proofs.Laws.{lines-reports, end-few}
-
--- A text that is too short for some bytes, and one that has room for them
-
-module _ (text bytes : List ℕ) (needed : ℕ) (e : needed ≡ length bytes) where
-  pub text-short : length text < needed → (Written.Refused tooShort needed ≡ textAnswer (length text) bytes) × (text ≡ textLeft text bytes)
-  text-short h = rw e (simp (lt-ltb (length text) (length bytes) (omega arith)) (refl, refl))
-
-  pub text-fits : needed ≤ length text → {end : ℕ} {after : List ℕ} → Put text 0 bytes end after
-      → (Written.Done needed ≡ textAnswer (length text) bytes) × (after ≡ textLeft text bytes)
-  text-fits h p = rw e (simp (le-ltb (length text) (length bytes) (omega arith)) (refl, p .leaves))
 
 -- Steps that were validated, from any release
 

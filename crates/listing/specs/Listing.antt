@@ -1,15 +1,12 @@
 -- The listing of a schedule, the text that program `mark` prints, and that of a run from a tail. Assumes nothing.
-use mathlib.Core.Bool.{cond}
 use mathlib.Core.List.{List, [], _∷_, _++_}
 use Prim.Native.Nat.{ℕ, suc, _≤_}
-use lib.Dec.{ltb}
 use lib.ListN.{length, take}
-use lib.Seq.{sets}
 use Rattle.number.specs.Refusal.{Handed}
 use Rattle.text.specs.Text.{ascii, decimal, refusalLine}
 use Rattle.text.specs.Put.{each}
 use Rattle.schedule.specs.Schedule.{Reading, Accepted, Refused, readSchedule}
-use Rattle.writer.specs.Writer.{roomAnswer, writtenHands}
+use Rattle.writer.specs.Writer.{textAnswer, textLeft, writtenHands}
 use Rattle.rules.specs.Run.{reports, after}
 use Rattle.passes.specs.Pass.{freshOf}
 use Rattle.start.specs.Start.{startRelease, readFrom}
@@ -58,12 +55,6 @@ pub record ListingFits : Type 0 where
   pub from : (tail bytes : List ℕ) → length (listingFrom tail bytes) ≤ longestText
 
 -- The listing's entries: the length written, or 6 with the length needed, and then the text is as it was
-
-abbrev pub textAnswer : ℕ → List ℕ → Written
-textAnswer room bytes = roomAnswer room (length bytes)
-
-abbrev pub textLeft : List ℕ → List ℕ → List ℕ
-textLeft text bytes = cond (ltb (length text) (length bytes)) text (sets text 0 bytes)
 
 abbrev pub listAnswers : ℕ → List ℕ → Written
 listAnswers room schedule = textAnswer room (listing schedule)

@@ -21,6 +21,7 @@ use store::Store;
 use text::put;
 use text::put_refusal;
 use writer::Written;
+use writer::write_text;
 ghost use mathlib.Core.Path.{_≡_};
 ghost use mathlib.Core.List.{_++_};
 ghost use Prim.Native.Nat.{_+_, _≤_};
@@ -29,11 +30,11 @@ ghost use Rattle.text.specs.Put.{Put};
 ghost use Rattle.text.specs.Text.{refusalLine};
 ghost use Rattle.store.specs.Log.{places};
 ghost use Rattle.schedule.specs.Record.{longest};
-ghost use Rattle.writer.specs.Writer.{writtenHands};
+ghost use Rattle.writer.specs.Writer.{textAnswer, textLeft, writtenHands};
 ghost use Rattle.state.specs.Fields.{releaseIn};
 ghost use Rattle.passes.specs.Pass.{readingFrom, Ready};
 ghost use Rattle.lines.specs.Lines.{byteLines};
-ghost use Rattle.listing.specs.Listing.{endLines, readingText, textAnswer, textLeft, listAnswers, listHands, listLeaves, listFromAnswers, listFromHands, listFromLeaves};
+ghost use Rattle.listing.specs.Listing.{endLines, readingText, listAnswers, listHands, listLeaves, listFromAnswers, listFromHands, listFromLeaves};
 
 // No listing has more bytes than this.
 pub const LONGEST_TEXT: usize = 655665;
@@ -100,7 +101,7 @@ fn list_refusal(k: u32, place: usize, text: &mut [u8]) -> Written
 {
     let mut last = [0u8; LAST];
     let length = put_refusal(&mut last, 0, k, place);
-    put_listing(b"", &last[..length], text)
+    write_text(text, &last[..length])
 }
 
 // Lists a schedule. Answers the length written; a text that is too short is left as it was.

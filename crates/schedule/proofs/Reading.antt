@@ -25,7 +25,7 @@ use Rattle.schedule.proofs.Records.{record-length, front-length, read-f
 -- Reading on
 
 -- bytes that belong to the record before are passed over
-skipped : (h : Header) (place : ℕ) (bytes : List ℕ) (skip : ℕ) → stepsFrom h place bytes skip ≡ stepsFrom h (place + skip) (drop skip bytes) 0
+pub skipped : (h : Header) (place : ℕ) (bytes : List ℕ) (skip : ℕ) → stepsFrom h place bytes skip ≡ stepsFrom h (place + skip) (drop skip bytes) 0
 unfolding stepsFrom
 skipped h place [] zero = refl
 skipped h place [] (suc skip) = refl
@@ -96,11 +96,11 @@ after-header h g rest fits =
 
 -- What was read
 
--- the reader's refusals name the place of its first byte, and their numbers are at most 5
+-- the reader's refusals name the place of its first byte, and their numbers are 1 to 5
 
 abbrev AtFirst : Read → Type 0
 AtFirst (Read.Record r l) = Unit {0}
-AtFirst (Read.Refused k p) = (p ≡ 0) × (k ≤ outOfRange)
+AtFirst (Read.Refused k p) = (p ≡ 0) × (k ≤ outOfRange) × (1 ≤ k)
 
 either : (b : Bool) (x y : Read) → AtFirst x → AtFirst y → AtFirst (cond b x y)
 either true x y p q = p
@@ -108,20 +108,23 @@ either false x y p q = q
 
 at-first : (bytes : List ℕ) (before : Before) → AtFirst (readerAnswers bytes before)
 at-first bytes before =
-    either (eqb (length bytes) 0) _ _ (refl, lit≤ tt)
-    (either (isKind (getD bytes 0 0)) _ _ (known (kindOf (getD bytes 0 0))) (refl, lit≤ tt))
+    either (eqb (length bytes) 0) _ _ (refl, lit≤ tt, lit≤ tt)
+    (either (isKind (getD bytes 0 0)) _ _ (known (kindOf (getD bytes 0 0))) (refl, lit≤ tt, lit≤ tt))
   where
     known : (k : Kind) → AtFirst (kindAnswer bytes before k)
     known k =
         let r : Record = recordAt bytes k in
-        either (leb (length bytes) (bodyLength k)) _ _ (refl, lit≤ tt)
-        (either (isPlaced before k) _ _ (either (inRangeAfter before r) (Read.Record r (recordLength r)) _ tt (refl, lit≤ tt)) (refl, lit≤ tt))
+        either (leb (length bytes) (bodyLength k)) _ _ (refl, lit≤ tt, lit≤ tt)
+        (either (isPlaced before k) _ _ (either (inRangeAfter before r) (Read.Record r (recordLength r)) _ tt (refl, lit≤ tt, lit≤ tt)) (refl, lit≤ tt, lit≤ tt))
 
 pub refused-at-first : (bytes : List ℕ) (before : Before) (k p : ℕ) → readerAnswers bytes before ≡ Read.Refused k p → p ≡ 0
 refused-at-first bytes before k p e = subst AtFirst e (at-first bytes before) .0
 
 pub refused-number : (bytes : List ℕ) (before : Before) (k p : ℕ) → readerAnswers bytes before ≡ Read.Refused k p → k ≤ outOfRange
 refused-number bytes before k p e = subst AtFirst e (at-first bytes before) .1
+
+refused-some : (bytes : List ℕ) (before : Before) (k p : ℕ) → readerAnswers bytes before ≡ Read.Refused k p → 1 ≤ k
+refused-some bytes before k p e = subst AtFirst e (at-first bytes before) .2
 
 -- steps that are read, and then a record that is refused
 pub record StoppedAt (h : Header) (place : ℕ) (bytes : List ℕ) (k at : ℕ) : Type 0 where
@@ -230,6 +233,7 @@ pub record Whole (bytes : List ℕ) (h : Header) (steps : List Step) : Type 0 wh
 
 pub record Stopped (bytes : List ℕ) (k at : ℕ) : Type 0 where
   pub number : k ≤ outOfRange
+  pub some : 1 ≤ k
   pub near : at ≤ longest
   pub first : AllBytes bytes → RefusalOf bytes k at
 
@@ -258,6 +262,7 @@ says-whole h bytes rest g fits z d (Refused k at) e y =
     z .front b ∙ ap (λ l. recordBytes (headerRecord h) ++ l) (y .split (z .others b)) ∙ sym (append-assoc (recordBytes (headerRecord h)) (stepsBytes (y .steps)) (y .rest)) in
     record {
       number = refused-number (y .rest) (Before.Header h) k 0 (y .refused);
+      some = refused-some (y .rest) (Before.Header h) k 0 (y .refused);
       near = omega (arith, y .there, y .long, z .long);
       first = λ b. rw place (at-step h (y .steps) (y .rest) fits g (y .ranged) (split b) (y .some) (y .refused));
     }
@@ -283,12 +288,13 @@ read-says bytes = by-length (ltb longest (length bytes)) refl
         let here : p ≡ 0 = refused-at-first bytes Before.Nothing k p e in
         record {
           number = refused-number bytes Before.Nothing k p e;
+          some = refused-some bytes Before.Nothing k p e;
           near = omega arith;
           first = λ b. rw here (at-header fits (e ∙ ap (Read.Refused k) here));
         }
 
     by-length : (b : Bool) → ltb longest (length bytes) ≡ b → SaysWhole bytes (cond b (Refused emptyOrTooLong 0) (stepsAfter bytes (readerAnswers bytes Before.Nothing)))
-    by-length true e = record { number = lit≤ tt; near = omega arith; first = λ b. too-long (ltb-true longest (length bytes) e) }
+    by-length true e = record { number = lit≤ tt; some = lit≤ tt; near = omega arith; first = λ b. too-long (ltb-true longest (length bytes) e) }
     by-length false e = by-header (readerAnswers bytes Before.Nothing) (ltb-false longest (length bytes) e) refl
 
 -- and the other way: a record that is refused after steps that are read

@@ -2,3 +2,4 @@ pub mod Laws
 pub mod Writing
 pub mod RoundTrip
 pub mod Cases
+pub mod Texts

@@ -42,3 +42,11 @@ leaves buffer place r (Written.Refused k v) = buffer
 
 abbrev pub writerLeaves : List ℕ → ℕ → ℕ → ℕ → ℕ → List ℕ
 writerLeaves buffer place k a b = leaves buffer place (recordByNumbers k a b) (writerAnswers (length buffer) place k a b)
+
+-- A whole text at the front of a buffer: the length written, or 6 with the length needed, and then the buffer is as it was
+
+abbrev pub textAnswer : ℕ → List ℕ → Written
+textAnswer room text = roomAnswer room (length text)
+
+abbrev pub textLeft : List ℕ → List ℕ → List ℕ
+textLeft buffer text = cond (ltb (length buffer) (length text)) buffer (sets buffer 0 text)

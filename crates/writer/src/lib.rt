@@ -1,4 +1,4 @@
-// The writer: one record at a given place of a lent buffer. It knows no n.
+// The writer: one record at a given place of a lent buffer, where there is room for it; it knows no n. And a whole text at the front of one.
 use kind::Kind;
 use number::OUT_OF_RANGE;
 use number::TOO_SHORT;
@@ -11,7 +11,7 @@ ghost use Prim.Native.Nat.{_+_, _≤_};
 ghost use lib.ListN.{length};
 ghost use lib.Seq.{sets};
 ghost use Rattle.schedule.specs.Record.{recordLength, recordBytes};
-ghost use Rattle.writer.specs.Writer.{isWritable, recordAnswer, leaves, writerAnswers, writtenHands, writerHands, writerLeaves};
+ghost use Rattle.writer.specs.Writer.{isWritable, recordAnswer, leaves, writerAnswers, writtenHands, writerHands, writerLeaves, textAnswer, textLeft};
 
 // The place after the record, or a refusal's number with the place given or the length needed.
 pub enum Written {
@@ -78,4 +78,16 @@ pub fn write_record(buffer: &mut [u8], place: usize, kind: u32, first: u32, seco
     } else {
         Written::Refused(UNKNOWN_KIND, place)
     }
+}
+
+// A whole text. Answers its length; a buffer that is too short for it is left as it was.
+pub fn write_text(buffer: &mut [u8], whole: &[u8]) -> Written
+    ensures { λ x. ⌜ (x ≡ textAnswer (length (now (buffer .entry))) (now (whole .entry))) × (now (buffer .exit) ≡ textLeft (now (buffer .entry)) (now (whole .entry))) ⌝ }
+{
+    let needed = whole.len();
+    if buffer.len() < needed {
+        return Written::Refused(TOO_SHORT, needed);
+    }
+    text::put(buffer, 0, whole);
+    Written::Done(needed)
 }

@@ -1,9 +1,15 @@
 //! Runs many schedules: reads frames of a two-byte length, low byte first, and a schedule, and
-//! prints one line for each, the report in hexadecimal or the refusal.
+//! prints one line for each, the report in hexadecimal or the refusal. With the word `class` it
+//! reads one class file instead and prints its figures or the refusal.
 
+use std::env;
+use std::ffi::OsString;
 use std::io::{self, BufRead, BufReader, ErrorKind, Read, Write};
+use std::process::ExitCode;
 
-use second::{run, Refusal};
+use second::{class_text, run, Refusal};
+
+const USAGE: &str = "usage: second | second class";
 
 const INPUT_BLOCK: usize = 1 << 20;
 const OUTPUT_BLOCK: usize = 1 << 20;
@@ -11,7 +17,30 @@ const MOST_FRAME_BYTES: usize = 65_535;
 /// A report of a step for each of 32,768 bytes and a tail of 320 would fit.
 const MOST_REPORT_BYTES: usize = 32_768 + 320;
 
-fn main() -> io::Result<()> {
+fn main() -> io::Result<ExitCode> {
+    let words: Vec<OsString> = env::args_os().skip(1).collect();
+    match &words[..] {
+        [] => run_frames()?,
+        [word] if word == "class" => print_class()?,
+        _ => {
+            eprintln!("{USAGE}");
+            return Ok(ExitCode::from(2));
+        }
+    }
+    Ok(ExitCode::SUCCESS)
+}
+
+/// The figures of the class file that standard input holds.
+fn print_class() -> io::Result<()> {
+    let mut file = Vec::new();
+    io::stdin().lock().read_to_end(&mut file)?;
+    let mut output = io::stdout().lock();
+    output.write_all(class_text(&file).as_bytes())?;
+    output.flush()
+}
+
+/// A line for each frame of standard input.
+fn run_frames() -> io::Result<()> {
     let mut input = BufReader::with_capacity(INPUT_BLOCK, io::stdin().lock());
     let mut output = io::stdout().lock();
     let mut lines = Vec::with_capacity(2 * OUTPUT_BLOCK);

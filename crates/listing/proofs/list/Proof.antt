@@ -6,13 +6,13 @@ use lib.ListN.{length}
 use borrow.Author.Needs.{needs}
 use Rattle.schedule.specs.Record.{headerRecord, recordLength}
 use Rattle.schedule.specs.Schedule.{readSchedule}
-use Rattle.writer.specs.Writer.{writtenHands}
+use Rattle.writer.specs.Writer.{textAnswer, textLeft, writtenHands}
 use Rattle.state.specs.Fields.{fields, releaseIn}
 use Rattle.passes.specs.Pass.{validated, readingFrom, freshOf}
 use Rattle.passes.proofs.Passed.{passed}
 use Rattle.passes.proofs.Begun.{begun, fresh-back}
 use Rattle.listing.specs.Types.{Header, Context, Validated}
-use Rattle.listing.specs.Listing.{readingText, listing, textAnswer, textLeft}
+use Rattle.listing.specs.Listing.{readingText, listing}
 use Rattle.listing.proofs.Listed.{refused-text, text-from}
 use Rattle.listing.proofs.list.Statement.{statement}
 use Rattle.listing.proofs.list.Tie as tie

@@ -4,7 +4,7 @@ use mathlib.Core.List.{List}
 use Prim.Native.Nat.{ℕ}
 use lib.ListN.{length}
 use borrow.Author.Needs.{needs}
-use Rattle.writer.specs.Writer.{writtenHands}
+use Rattle.writer.specs.Writer.{textAnswer, textLeft, writtenHands}
 use Rattle.kind.specs.declared.Kind.{Kind}
 use Rattle.state.specs.Fields.{releaseIn}
 use Rattle.passes.specs.Pass.{validated, readingFrom}
@@ -12,7 +12,7 @@ use Rattle.start.specs.declared.Start.{Start}
 use Rattle.start.specs.Start.{startRelease, readUnder, readFrom, StartOf}
 use Rattle.start.proofs.Begun.{passed-from, steps-from, was-read, at-once, start-back, started}
 use Rattle.listing.specs.Types.{Context, Validated}
-use Rattle.listing.specs.Listing.{readingText, listingFrom, textAnswer, textLeft}
+use Rattle.listing.specs.Listing.{readingText, listingFrom}
 use Rattle.listing.proofs.Listed.{refused-text, text-from}
 use Rattle.listing.proofs.list_from.Statement.{statement}
 use Rattle.listing.proofs.list_from.Tie as tie

@@ -1,15 +1,13 @@
 -- `listing::list_refusal` meets its contract: the line is put, and then the text of it. Assumes nothing.
-use mathlib.Core.Path.{_≡_, ap, ap₂, _∙_}
-use mathlib.Core.List.{List, _++_}
-use Prim.Native.Nat.{ℕ, _≤_}
+use mathlib.Core.Path.{_≡_, ap, _∙_}
+use Prim.Native.Nat.{_≤_}
 use native.Mathlib.Omega.{arith}
 use lib.ListN.{length, take}
 use borrow.Author.Needs.{needs}
 use Rattle.text.specs.Text.{refusalLine}
 use Rattle.text.proofs.Laws.{decimal-length, refusal-length}
 use Rattle.text.proofs.Putting.{put-front}
-use Rattle.listing.specs.Listing.{textAnswer, textLeft}
-use Rattle.lines.proofs.LineLaws.{no-lines}
+use Rattle.writer.specs.Writer.{textAnswer, textLeft}
 use Rattle.listing.proofs.list_refusal.Statement.{statement}
 use Rattle.listing.proofs.list_refusal.Tie as tie
 
@@ -29,9 +27,8 @@ list-refusal-spec =
     (tie.spec
     (λ c. search needs)
     (λ c κs. omega (arith, fits c))
-    (λ c. search needs)
     (λ c. omega (arith, fits (c .before .before .before), c .before .before .put-refusal .ensures .ends, c .before .before .put-refusal .kept))
     (λ c. omega (arith, ap length (line (c .before .before .before)), c .before .before .before .put-refusal .ensures .ends))
-    (λ c κs. (omega arith, omega (arith, ap length (line (c .before .before .before .before)), fits (c .before .before .before .before .before))))
+    (λ c κs. search needs)
     (λ c. search needs)
-    (λ c. let args = c .before .before .before .before .before .before .before .before .before .before .args in let whole = ap₂ (λ (x y : List ℕ). x ++ y) no-lines (line (c .before .before .before .before .before .before .before)) in (c .before .before .put-listing .ensures .0 ∙ ap (textAnswer (length (args .text .now))) whole, c .before .before .put-listing .ensures .1 ∙ ap (textLeft (args .text .now)) whole)))
+    (λ c. let args = c .before .before .before .before .before .before .before .before .before .args in let whole = line (c .before .before .before .before .before .before) in let wrote = c .before .before .write-text .ensures in (wrote .0 ∙ ap (textAnswer (length (args .text .now))) whole, wrote .1 ∙ ap (textLeft (args .text .now)) whole)))

@@ -9,6 +9,7 @@ use borrow.Author.Needs.{needs}
 use Rattle.text.proofs.Putting.{put-front}
 use Rattle.store.specs.Log.{places}
 use Rattle.schedule.specs.Record.{longest}
+use Rattle.writer.specs.Writer.{textAnswer, textLeft}
 use Rattle.rules.specs.Run.{after}
 use Rattle.state.specs.Fields.{releaseIn}
 use Rattle.passes.specs.Pass.{readingFrom, stepsOf, stepBytes}
@@ -16,7 +17,7 @@ use Rattle.passes.proofs.Passed.{stand}
 use Rattle.passes.proofs.Begun.{left-release}
 use Rattle.lines.specs.Lines.{byteLines}
 use Rattle.listing.specs.Types.{Step, Release}
-use Rattle.listing.specs.Listing.{endLines, textAnswer, textLeft}
+use Rattle.listing.specs.Listing.{endLines}
 use Rattle.listing.proofs.Listed.{run-bytes, run-small, listed}
 use Rattle.listing.proofs.list_steps.Statement.{statement}
 use Rattle.listing.proofs.list_steps.Tie as tie

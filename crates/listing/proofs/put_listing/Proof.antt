@@ -5,9 +5,9 @@ use native.Mathlib.Omega.{arith}
 use lib.ListN.{length, length-append}
 use borrow.Author.Needs.{needs}
 use Rattle.text.proofs.Putting.{put-then}
+use Rattle.writer.proofs.Texts.{text-short, text-fits}
 use Rattle.lines.specs.Lines.{byteLines}
 use Rattle.lines.proofs.LineLaws.{lines-few}
-use Rattle.listing.proofs.Listed.{text-short, text-fits}
 use Rattle.listing.proofs.put_listing.Statement.{statement}
 use Rattle.listing.proofs.put_listing.Tie as tie
 

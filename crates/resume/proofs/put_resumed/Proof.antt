@@ -4,9 +4,10 @@ use native.Mathlib.Omega.{arith}
 use borrow.Author.Needs.{needs}
 use Rattle.text.specs.Put.{Put}
 use Rattle.text.proofs.Putting.{put-then, put-front}
+use Rattle.writer.proofs.Texts.{never-refused, text-put}
 use Rattle.start.specs.Start.{readFrom}
 use Rattle.listing.specs.Listing.{listingFrom}
-use Rattle.listing.proofs.Fits.{listing-fits, never-refused, listed-put}
+use Rattle.listing.proofs.Fits.{listing-fits}
 use Rattle.resume.proofs.Laws.{tail-most}
 use Rattle.resume.proofs.put_resumed.Statement.{statement}
 use Rattle.resume.proofs.put_resumed.Tie as tie
@@ -17,7 +18,7 @@ listed c =
     let start = c .before .before .before .before .before .before .before .before .before .before in
     let args = start .args in
     let list = c .before .before .before .before .list-from in
-    listed-put (args .text .now) (listingFrom (args .tail .now) (args .rest .now)) (listing-fits .from (args .tail .now) (args .rest .now)) (omega (arith, start .pre .1)) (list .last .1 .1 .0) (c .listed .given .0 .0)
+    text-put (args .text .now) (listingFrom (args .tail .now) (args .rest .now)) (listing-fits .from (args .tail .now) (args .rest .now)) (omega (arith, start .pre .1)) (list .last .1 .1 .0) (c .listed .given .0 .0)
     (sym (c .listed .given .1) ∙ list .ensures .0) (list .ensures .2)
 
 pub put-resumed-spec : {M : Type 1} → statement M

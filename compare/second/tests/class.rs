@@ -1,0 +1,431 @@
+//! The figures of class files, their refusals and text, and program `second` with the word `class`.
+
+mod common;
+
+use common::{
+    bytes, bytes_of, header_bytes, headers, refusal, report, steps_from, wide_headers, Numbers,
+};
+use second::{class_figures, class_text, put_class_text, ClassFigures, Refusal, Tail};
+use std::io::Write;
+use std::process::{Command, Output, Stdio};
+
+/// An abort, reported twice, and 4 calls.
+const P1: &str = "01 02 03 02 03 01 01 06 01 01 08 01 06 01 02 06 01 01 03 01 02 06 02 02";
+/// A commit and 2 calls.
+const P2: &str = "01 01 01 02 03 01 01 06 01 01 08 01 06 01 01";
+/// An abort and 1 call.
+const P3: &str = "01 02 03 09 01 0A 01 06 01 01";
+/// No steps.
+const P8: &str = "01 08 FF";
+/// One step, which is not due.
+const P13: &str = "01 01 01 08 00";
+/// A commit, reported by the coordinator and by the participant, and 2 calls.
+const WIDE: &str = "0B 01 01 00 00 00 02 03 01 01 06 01 01 03 02 01 03 04 01 06 01 01";
+const WIDE_WITHOUT_STEPS: &str = "0B 20 FF FF FF FF";
+/// The coordinator closes the log with a call whose answer is lost.
+const CLOSED_UNHEARD: &str = "01 01 01 02 08 00 07 00 01";
+/// The coordinator closes the log and hears so.
+const CLOSED: &str = "01 01 01 02 08 00 06 00 01";
+
+/// The text with these figures: schedules, commit, abort, neither; calls, the mean's whole part and
+/// remainder; the largest and the schedule that has it.
+fn text(counts: [u32; 4], calls: [u32; 3], largest: [u32; 2]) -> String {
+    let [schedules, commit, abort, neither] = counts;
+    let [calls, whole, remainder] = calls;
+    let [largest, schedule] = largest;
+    format!(
+        "schedules {schedules}\ncommit {commit}\nabort {abort}\nneither {neither}\n\
+         calls {calls}\nmean {whole} {remainder}/{schedules}\nlargest {largest} in {schedule}\n"
+    )
+}
+
+fn assert_text(schedules: &[&str], counts: [u32; 4], calls: [u32; 3], largest: [u32; 2]) {
+    let file = schedules.join(" ");
+    let expected = text(counts, calls, largest);
+    assert_eq!(class_text(&bytes(&file)), expected, "{file}");
+}
+
+#[test]
+fn the_text_in_full() {
+    let file = bytes(&[P3, WIDE, P1, P8].join(" "));
+    let expected = "schedules 4\ncommit 1\nabort 2\nneither 1\ncalls 7\nmean 1 3/4\n\
+                    largest 4 in 3\n";
+    assert_eq!(class_text(&file), expected);
+    let figures = class_figures(&file).expect("accepted");
+    let expected = ClassFigures {
+        schedules: 4,
+        with_commit: 1,
+        with_abort: 2,
+        with_neither: 1,
+        calls: 7,
+        largest: 4,
+        largest_in: 3,
+    };
+    assert_eq!(figures, expected);
+    assert_eq!(figures.mean(), (1, 3));
+}
+
+#[test]
+fn single_schedules() {
+    assert_text(&[P1], [1, 0, 1, 0], [4, 4, 0], [4, 1]);
+    assert_text(&[P2], [1, 1, 0, 0], [2, 2, 0], [2, 1]);
+    assert_text(&[P3], [1, 0, 1, 0], [1, 1, 0], [1, 1]);
+    assert_text(&[P8], [1, 0, 0, 1], [0, 0, 0], [0, 1]);
+    assert_text(&[P13], [1, 0, 0, 1], [0, 0, 0], [0, 1]);
+    assert_text(&[WIDE], [1, 1, 0, 0], [2, 2, 0], [2, 1]);
+}
+
+#[test]
+fn both_kinds_of_header_in_one_file() {
+    let counts = [6, 2, 2, 2];
+    let file = [P1, WIDE, P2, WIDE_WITHOUT_STEPS, P3, P8];
+    assert_text(&file, counts, [9, 1, 3], [4, 1]);
+    let file = [WIDE_WITHOUT_STEPS, P8, P3, P2, WIDE, P1];
+    assert_text(&file, counts, [9, 1, 3], [4, 6]);
+}
+
+#[test]
+fn the_first_of_several_largest() {
+    assert_text(&[P3, P2, WIDE, P8], [4, 2, 1, 1], [5, 1, 1], [2, 2]);
+    assert_text(&[P3, WIDE, P2, P3], [4, 2, 2, 0], [6, 1, 2], [2, 2]);
+    assert_text(&[P3, P3, P3], [3, 0, 3, 0], [3, 1, 0], [1, 1]);
+    assert_text(&[P2, P2, P1, P1], [4, 2, 2, 0], [12, 3, 0], [4, 3]);
+    assert_text(&[P1, P1, P2, P1], [4, 1, 3, 0], [14, 3, 2], [4, 1]);
+}
+
+#[test]
+fn schedules_without_steps() {
+    let without = [P8, WIDE_WITHOUT_STEPS, P8];
+    assert_text(&without, [3, 0, 0, 3], [0, 0, 0], [0, 1]);
+    assert_text(&[P13, P8, P13], [3, 0, 0, 3], [0, 0, 0], [0, 1]);
+    assert_text(&[P8, P8, P3], [3, 0, 1, 2], [1, 0, 1], [1, 3]);
+    assert_text(&[P8, P3, P8], [3, 0, 1, 2], [1, 0, 1], [1, 2]);
+}
+
+#[test]
+fn the_remainder_is_over_the_number_of_schedules() {
+    assert_text(&[P3, P3, P1, P1], [4, 0, 4, 0], [10, 2, 2], [4, 3]);
+    assert_text(&[P1, P8], [2, 0, 1, 1], [4, 2, 0], [4, 1]);
+    assert_text(&[P2, P3], [2, 1, 1, 0], [3, 1, 1], [2, 1]);
+    assert_text(&[P8, P8, P8, P2], [4, 1, 0, 3], [2, 0, 2], [2, 4]);
+}
+
+#[test]
+fn closed_logs() {
+    assert_eq!(report(&bytes(CLOSED_UNHEARD)).0, [1, 1, 5]);
+    assert_eq!(report(&bytes(CLOSED)).0, [1, 1, 7]);
+    assert_text(&[CLOSED_UNHEARD], [1, 0, 0, 1], [1, 1, 0], [1, 1]);
+    assert_text(&[CLOSED], [1, 0, 1, 0], [1, 1, 0], [1, 1]);
+    let file = [CLOSED_UNHEARD, CLOSED, CLOSED_UNHEARD];
+    assert_text(&file, [3, 0, 1, 2], [3, 1, 0], [1, 1]);
+}
+
+#[test]
+fn a_decision_reported_by_several_steps_counts_once() {
+    assert_eq!(report(&bytes(P1)).0, [1, 1, 1, 1, 7, 1, 1, 3]);
+    assert_eq!(report(&bytes(WIDE)).0, [1, 1, 1, 2, 2, 1]);
+    assert_text(&[P1, WIDE], [2, 1, 1, 0], [6, 3, 0], [4, 1]);
+}
+
+#[test]
+fn due_calls_alone_are_counted() {
+    assert_text(
+        &["01 01 01 06 01 01 07 01 01 06 00 01"],
+        [1, 0, 0, 1],
+        [0, 0, 0],
+        [0, 1],
+    );
+    // Two lost answers, a crash and a restart, and one answer heard.
+    let lost = "01 02 03 08 01 07 01 01 07 01 01 09 01 0A 01 06 01 01";
+    assert_text(&[P2, lost], [2, 1, 1, 0], [5, 2, 1], [3, 2]);
+    // A log that is heard has no further call pending.
+    let heard = "01 02 03 02 03 01 01 06 01 01 08 00 06 00 01 06 00 01";
+    assert_text(&[heard], [1, 0, 0, 1], [2, 2, 0], [2, 1]);
+}
+
+#[test]
+fn every_schedule_starts_afresh() {
+    // The start, the request and the vote of one schedule are not those of the next.
+    let parts = ["01 01 01 02", "01 01 01 03 01 01", "01 01 01 06 01 01"];
+    assert_text(&parts, [3, 0, 0, 3], [0, 0, 0], [0, 1]);
+    // After a commit, the same log is empty again.
+    let abort = "01 01 01 08 01 06 01 01";
+    assert_text(&[P2, abort], [2, 1, 1, 0], [3, 1, 1], [2, 1]);
+    assert_text(&[abort, P2], [2, 1, 1, 0], [3, 1, 1], [2, 2]);
+    // The votes are those of the header before.
+    let no_vote = "01 01 00 02 03 01 01 06 01 01";
+    assert_text(&[P2, no_vote, P2], [3, 2, 1, 0], [5, 1, 2], [2, 1]);
+}
+
+#[test]
+fn steps_go_with_the_header_before() {
+    let parts = [
+        "01 01 01 08 01",
+        "0B 09 00 00 00 00 08 09",
+        "01 08 00 08 08",
+    ];
+    assert_text(&parts, [3, 0, 0, 3], [0, 0, 0], [0, 1]);
+}
+
+#[test]
+fn bytes_of_a_body_are_no_header() {
+    let narrow = "01 01 01 08 01 03 01 01 06 01 01 09 01 0A 01";
+    assert_text(&[narrow], [1, 0, 1, 0], [1, 1, 0], [1, 1]);
+    let wide = "0B 0B 01 01 00 00 08 0B 03 01 0B 06 0B 0B 09 01 0A 01";
+    assert_text(&[wide], [1, 0, 1, 0], [1, 1, 0], [1, 1]);
+    assert_text(&[narrow, wide, wide], [3, 0, 3, 0], [3, 1, 0], [1, 1]);
+}
+
+/// Asserts the refusal of each file, and its text.
+fn assert_refusals(cases: &[(&str, u32, usize)]) {
+    for &(file, number, value) in cases {
+        let bytes = bytes(file);
+        assert_eq!(
+            class_figures(&bytes),
+            Err(Refusal { number, value }),
+            "{file}"
+        );
+        assert_eq!(class_text(&bytes), format!("refused {number} at {value}\n"));
+    }
+}
+
+#[test]
+fn refusals_at_the_beginning() {
+    assert_refusals(&[
+        ("", 1, 0),
+        ("00", 2, 0),
+        ("0C 01 01", 2, 0),
+        ("FF 01 01 01", 2, 0),
+        ("01", 3, 0),
+        ("01 09", 3, 0),
+        ("0B 21 00 00 00", 3, 0),
+        ("06 01", 3, 0),
+        ("08", 3, 0),
+        ("02", 4, 0),
+        ("02 01 01 01", 4, 0),
+        ("08 00 01 01 01", 4, 0),
+        ("06 FF FF 01 01 01", 4, 0),
+        ("01 00 00", 5, 0),
+        ("01 09 00", 5, 0),
+        ("01 01 02", 5, 0),
+        ("0B 00 00 00 00 00", 5, 0),
+        ("0B 21 00 00 00 00", 5, 0),
+        ("0B 01 02 00 00 00", 5, 0),
+    ]);
+}
+
+#[test]
+fn refusals_in_the_first_schedule() {
+    assert_refusals(&[
+        ("01 01 01 0C", 2, 3),
+        ("01 01 01 02 00 02", 2, 4),
+        ("01 01 01 06 01", 3, 3),
+        ("01 01 01 06 09", 3, 3),
+        ("01 01 01 02 08", 3, 4),
+        ("01 01 01 08 02", 5, 3),
+        ("01 01 01 02 03 06 01", 5, 4),
+        ("01 01 01 02 06 01 00", 5, 4),
+        ("0B 20 FF FF FF FF 02 08 21", 5, 7),
+    ]);
+}
+
+#[test]
+fn refusals_in_a_later_schedule() {
+    assert_refusals(&[
+        ("01 01 01 01 01 01 00", 2, 6),
+        ("01 01 01 0B 01 01 00 00 00 02 0C", 2, 10),
+        ("01 01 01 01 01 01 06 01", 3, 6),
+        ("01 01 01 02 01 02 03 02 08", 3, 8),
+        ("01 02 03 08 02 01 01 01 08 02", 5, 8),
+        ("01 01 01 0B 20 FF FF FF FF 08 21", 5, 9),
+        ("0B 20 FF FF FF FF 08 20 01 08 FF 08 09", 5, 11),
+        (&format!("{P1} {P2} 01 01 01 02 FF"), 2, 43),
+        (&format!("{P1} {P2} 01 01 01 02 03 01"), 3, 43),
+        (&format!("{P1} {P2} 01 01 01 02 03 01 02"), 5, 43),
+    ]);
+}
+
+#[test]
+fn a_later_header_cut_short() {
+    assert_refusals(&[
+        ("01 01 01 01", 3, 3),
+        ("01 01 01 01 01", 3, 3),
+        ("01 01 01 01 09", 3, 3),
+        ("01 01 01 02 0B", 3, 4),
+        ("01 01 01 0B 20 FF FF FF", 3, 3),
+        ("01 01 01 0B 21 00 00 00", 3, 3),
+        ("0B 20 FF FF FF FF 01 08", 3, 6),
+        (&format!("{P1} {P2} {WIDE} 01"), 3, 61),
+    ]);
+}
+
+#[test]
+fn a_later_header_out_of_range() {
+    assert_refusals(&[
+        ("01 01 01 01 00 00", 5, 3),
+        ("01 01 01 01 09 00", 5, 3),
+        ("01 01 01 01 01 02", 5, 3),
+        ("01 01 01 02 0B 00 00 00 00 00", 5, 4),
+        ("01 01 01 0B 21 00 00 00 00", 5, 3),
+        ("01 01 01 0B 1F 00 00 00 80", 5, 3),
+        ("01 01 01 01 01 01 01 08 FF 01 09 FF", 5, 9),
+        (&format!("{P1} {P2} {WIDE} 01 02 04"), 5, 61),
+    ]);
+}
+
+#[test]
+fn the_first_wrong_record_from_the_left() {
+    assert_refusals(&[
+        ("01 00 00 FF", 5, 0),
+        ("02 FF", 4, 0),
+        ("01 01 01 08 02 00", 5, 3),
+        ("01 01 01 01 09 00 FF", 5, 3),
+        ("01 01 01 FF 01 09 00", 2, 3),
+        ("01 01 01 08 02 01", 5, 3),
+    ]);
+}
+
+/// A file of that many bytes: headers of kind 01, then starts.
+fn headers_of_length(length: usize) -> Vec<u8> {
+    let mut file = bytes(P8).repeat(length / 3);
+    file.resize(length, 0x02);
+    file
+}
+
+#[test]
+fn limit_of_file() {
+    let expected = text([10_922, 0, 0, 10_922], [0, 0, 0], [0, 1]);
+    assert_eq!(class_text(&headers_of_length(32_766)), expected);
+    assert_eq!(class_text(&headers_of_length(32_768)), expected);
+    let refused = "refused 1 at 0\n";
+    assert_eq!(class_text(&headers_of_length(32_769)), refused);
+    assert_eq!(class_text(&headers_of_length(100_000)), refused);
+    assert_eq!(class_text(&[0; 32_769]), refused);
+    assert_eq!(class_text(&[0; 32_768]), "refused 2 at 0\n");
+    let mut cut = headers_of_length(32_766);
+    cut.extend([0x01, 0x08]);
+    assert_eq!(class_text(&cut), "refused 3 at 32766\n");
+    let wide = bytes(WIDE_WITHOUT_STEPS).repeat(5_461);
+    let expected = text([5_461, 0, 0, 5_461], [0, 0, 0], [0, 1]);
+    assert_eq!(class_text(&wide), expected);
+}
+
+#[test]
+fn most_calls_of_a_file() {
+    let mut file = bytes("01 01 01 09 01 0A 01");
+    file.extend(bytes("07 01 01").repeat(10_920));
+    assert_eq!(file.len(), 32_767);
+    let expected = text([1, 0, 0, 1], [10_920, 10_920, 0], [10_920, 1]);
+    assert_eq!(class_text(&file), expected);
+}
+
+#[test]
+fn text_of_every_length() {
+    for file in [[P1, P8].join(" "), "01 01 01 01".to_string()] {
+        let file = bytes(&file);
+        let expected = class_text(&file);
+        let needed = expected.len();
+        for length in 0..=needed + 5 {
+            let mut text = vec![0xEE; length];
+            let outcome = put_class_text(&file, &mut text);
+            if length < needed {
+                assert_eq!(outcome, refusal(6, needed));
+                assert_eq!(text, vec![0xEE; length]);
+                continue;
+            }
+            assert_eq!(outcome, Ok(needed));
+            assert_eq!(text[..needed], *expected.as_bytes());
+            assert!(text[needed..].iter().all(|byte| *byte == 0xEE));
+        }
+    }
+}
+
+/// Whether the report of a schedule has a commit and an abort, and the sum of its tail's counts.
+fn single_figures(schedule: &[u8]) -> (bool, bool, u32) {
+    let (steps, tail) = report(schedule);
+    let has = |outcome: u8| steps.iter().any(|byte| byte % 4 == outcome);
+    (has(2), has(3), tail.calls.map(u32::from).iter().sum())
+}
+
+/// The text of a file with these schedules, from their single reports.
+fn text_of_reports(schedules: &[Vec<u8>]) -> String {
+    let reports: Vec<(bool, bool, u32)> = schedules.iter().map(|s| single_figures(s)).collect();
+    let count = |has: fn(&(bool, bool, u32)) -> bool| reports.iter().filter(|r| has(r)).count();
+    let all = schedules.len() as u32;
+    let calls: u32 = reports.iter().map(|(_, _, calls)| calls).sum();
+    let largest = reports.iter().map(|(_, _, calls)| *calls).max();
+    let largest = largest.expect("there is a schedule");
+    let first = reports.iter().position(|(_, _, calls)| *calls == largest);
+    let first = first.expect("some schedule has the largest");
+    let counts = [
+        count(|(commit, ..)| *commit),
+        count(|(_, abort, _)| *abort),
+        count(|(commit, abort, _)| !commit && !abort),
+    ];
+    let [commit, abort, neither] = counts.map(|count| count as u32);
+    text(
+        [all, commit, abort, neither],
+        [calls, calls / all, calls % all],
+        [largest, first as u32 + 1],
+    )
+}
+
+#[test]
+fn figures_equal_those_of_the_single_reports() {
+    let mut numbers = Numbers(6);
+    let headers: Vec<_> = headers().into_iter().chain(wide_headers()).collect();
+    for _ in 0..100 {
+        let mut schedules = Vec::new();
+        for _ in 0..1 + numbers.below(30) {
+            let header = headers[numbers.below(headers.len())];
+            let count = numbers.below(25);
+            let steps = steps_from(Tail::fresh(header), count, &mut numbers);
+            schedules.push([header_bytes(header), bytes_of(&steps)].concat());
+        }
+        let file = schedules.concat();
+        assert_eq!(class_text(&file), text_of_reports(&schedules));
+    }
+}
+
+/// How program `second` ends with these words and this input.
+fn output(words: &[&str], input: &[u8]) -> Output {
+    let mut program = Command::new(env!("CARGO_BIN_EXE_second"))
+        .args(words)
+        .stdin(Stdio::piped())
+        .stdout(Stdio::piped())
+        .stderr(Stdio::piped())
+        .spawn()
+        .expect("program starts");
+    let mut stdin = program.stdin.take().expect("standard input");
+    // One that prints its usage does not read.
+    let _ = stdin.write_all(input);
+    drop(stdin);
+    program.wait_with_output().expect("program ends")
+}
+
+#[test]
+fn program_with_the_word_class() {
+    let files = [
+        bytes(&[P1, WIDE, P8].join(" ")),
+        bytes("01 01 01 01"),
+        Vec::new(),
+        headers_of_length(32_768),
+        headers_of_length(32_769),
+    ];
+    for file in files {
+        let output = output(&["class"], &file);
+        assert!(output.status.success());
+        assert_eq!(output.stdout, class_text(&file).as_bytes());
+        assert_eq!(output.stderr, b"");
+    }
+}
+
+#[test]
+fn program_with_other_words() {
+    for words in [&["classes"][..], &["class", "class"], &[""]] {
+        let output = output(words, &bytes(P1));
+        assert_eq!(output.status.code(), Some(2));
+        assert_eq!(output.stdout, b"");
+        assert_eq!(output.stderr, b"usage: second | second class\n");
+    }
+}

@@ -1,0 +1,7 @@
+pub mod Sums
+pub mod Single
+pub mod Kept
+pub mod Refusals
+pub mod Once
+pub mod Fits
+pub mod Cases

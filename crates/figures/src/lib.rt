@@ -1,0 +1,27 @@
+// The figures of a class. What they are, and what is promised of them, is in specs/.
+
+// Totals over schedules: how many there are, those with a commit reported, with an abort, with neither; all store calls; the largest number of calls,
+// and the first schedule that has it, counted from 1.
+pub struct Totals {
+    pub schedules: usize,
+    pub commit: usize,
+    pub abort: usize,
+    pub neither: usize,
+    pub calls: usize,
+    pub largest: usize,
+    pub first: usize,
+}
+
+// The totals, and the mean of the calls as a whole part and a remainder over the number of schedules.
+pub struct Figures {
+    pub totals: Totals,
+    pub mean: usize,
+    pub remainder: usize,
+}
+
+// What a class file is answered: 0 and its figures; or a refusal's number and place, and no figures.
+pub struct Answer {
+    pub number: u32,
+    pub place: usize,
+    pub figures: Figures,
+}
