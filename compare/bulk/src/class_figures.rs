@@ -36,6 +36,11 @@ pub struct ClassFigures {
     /// Files in which several schedules have the largest number of calls, more than 0.
     tied: u64,
     without_calls: u64,
+    /// Files with calls of the coordinator, and of the last party that there can be.
+    of_party_0: u64,
+    of_party_32: u64,
+    /// Files in which a later schedule has more participants than the first.
+    grown: u64,
 }
 
 impl ClassFigures {
@@ -97,6 +102,9 @@ impl ClassFigures {
         let tied = calls.iter().filter(|calls| **calls == figures.largest);
         self.tied += u64::from(figures.largest > 0 && tied.count() > 1);
         self.without_calls += u64::from(figures.calls == 0);
+        self.of_party_0 += u64::from(figures.column[0] > 0);
+        self.of_party_32 += u64::from(figures.column[32] > 0);
+        self.grown += u64::from(figures.largest_n > u32::from(file[1]));
     }
 
     fn add(&mut self, other: &ClassFigures) {
@@ -115,6 +123,9 @@ impl ClassFigures {
         self.of_both_decisions += other.of_both_decisions;
         self.tied += other.tied;
         self.without_calls += other.without_calls;
+        self.of_party_0 += other.of_party_0;
+        self.of_party_32 += other.of_party_32;
+        self.grown += other.grown;
     }
 
     pub fn sum(parts: &[ClassFigures]) -> ClassFigures {
@@ -152,7 +163,8 @@ impl fmt::Display for ClassFigures {
             "{} files, of these {}; up to {} bytes, {} schedules and {} calls of a schedule; \
              {} schedules: {} with a commit, {} with an abort, {} with neither, {} calls; \
              {} files with headers of both kinds, {} with a commit and an abort, \
-             {} with a tie for the largest, {} without calls",
+             {} with a tie for the largest, {} without calls, {} with calls of party 0, \
+             {} with calls of party 32, {} with a larger n than the first schedule's",
             self.files.total(),
             self.files,
             self.longest,
@@ -166,7 +178,10 @@ impl fmt::Display for ClassFigures {
             self.of_both_forms,
             self.of_both_decisions,
             self.tied,
-            self.without_calls
+            self.without_calls,
+            self.of_party_0,
+            self.of_party_32,
+            self.grown
         )?;
         if self.texts.total() > 0 {
             write!(to, "; {} lent texts: {}", self.texts.total(), self.texts)?;

@@ -17,7 +17,7 @@ const SHORT: usize = 700;
 const ROUNDS: u32 = 2;
 
 /// The text of a class file takes fewer characters.
-const CLASS_TEXT: usize = 200;
+const CLASS_TEXT: usize = 700;
 
 /// An entry with what it is handed beside the buffer: a schedule, a tail, a tail and steps, or a
 /// class file.

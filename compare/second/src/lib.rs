@@ -1,7 +1,8 @@
-//! A second implementation of document 01 with requests 2026-01 to 2026-04 and 2026-06: the store,
-//! the participant, the coordinator, the reader and writer of schedules, the marker that runs a
-//! schedule of one release or goes on from a tail, the move of a tail to the wide form, the figures
-//! of a class file, and the host entry. Request 2026-05 changes no answer.
+//! A second implementation of document 01 with requests 2026-01 to 2026-04, 2026-06 and 2026-07:
+//! the store, the participant, the coordinator, the reader and writer of schedules, the marker that
+//! runs a schedule of one release or goes on from a tail, the move of a tail to the wide form, the
+//! figures of a class file with the calls of each party, and the host entry. Request 2026-05
+//! changes no answer.
 
 mod class;
 mod coordinator;

@@ -3,5 +3,6 @@ pub mod Single
 pub mod Kept
 pub mod Refusals
 pub mod Once
+pub mod Column
 pub mod Fits
 pub mod Cases

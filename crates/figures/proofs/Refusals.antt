@@ -1,17 +1,17 @@
 -- A refusal of a class file is the first from the left, and 4 is only for a file that does not begin with a header. Assumes nothing.
 use mathlib.Core.Path.{_≡_, refl, sym, ap, subst, _∙_}
 use mathlib.Core.Logic.{_⊎_, inl, inr, ⊎-elim}
-use mathlib.Core.Bool.{Bool, true, false, cond, not}
+use mathlib.Core.Bool.{Bool, true, false, cond}
 use mathlib.Core.List.{List, [], _∷_, _++_, flatten}
 use Prim.Native.Nat.{ℕ, zero, suc, _+_, _-_, _≤_, _<_}
 use native.Mathlib.Omega.{arith}
 use lib.Dec.{eqb, leb, ltb}
 use lib.ListN.{length, getD, take, drop, length-append, length-drop}
-use borrow.Author.Tests.{lt-ltb, le-ltb, eq-eqb, ltb-true, ltb-false, eqb-true, eqb-false}
+use borrow.Author.Tests.{lt-ltb, le-ltb, eq-eqb, ltb-true, ltb-false, eqb-true, eqb-false, not-false}
 use Rattle.number.specs.Refusal.{emptyOrTooLong, headerMisplaced, outOfRange}
 use Rattle.kind.specs.Kind.{kindOf, isKind, isHeader, bodyLength}
 use Rattle.schedule.specs.Record.{recordHeader, recordStep, longest}
-use Rattle.schedule.specs.Reader.{recordAt, inRangeAfter, ranged, refused, readerAnswers}
+use Rattle.schedule.specs.Reader.{isPlaced, recordAt, inRangeAfter, ranged, refused, readerAnswers}
 use Rattle.schedule.specs.Schedule.{Reading, Accepted, Refused, withStep, andThen, stepsFrom, stepsAfter, readSchedule}
 use Rattle.schedule.proofs.Records.{read-untested}
 use Rattle.schedule.proofs.Reading.{SaysWhole, skipped, refused-at-first, read-says}
@@ -148,10 +148,12 @@ class-answered =
 reader-same : (k p j q : ℕ) → Read.Refused k p ≡ Read.Refused j q → k ≡ j
 reader-same k p j q e = cc
 
--- the reader says 4 of a record that is no header where one is missing, and of a header found later
-
-misplaced-first : (bytes : List ℕ) (k p : ℕ) → readerAnswers bytes Before.Nothing ≡ Read.Refused k p → k ≡ headerMisplaced → isHeader (kindOf (getD bytes 0 0)) ≡ false
-misplaced-first bytes k p e m = go (eqb (length bytes) 0) (isKind (getD bytes 0 0)) (leb (length bytes) (bodyLength (kindOf (getD bytes 0 0)))) (isHeader (kindOf (getD bytes 0 0))) (inRangeAfter Before.Nothing r) e
+-- the reader says 4 only of a record in the wrong place
+misplaced : (bytes : List ℕ) (before : Before) (k p : ℕ) → readerAnswers bytes before ≡ Read.Refused k p → k ≡ headerMisplaced
+    → isPlaced before (kindOf (getD bytes 0 0)) ≡ false
+misplaced bytes before k p e m =
+    go (eqb (length bytes) 0) (isKind (getD bytes 0 0)) (leb (length bytes) (bodyLength (kindOf (getD bytes 0 0)))) (isPlaced before (kindOf (getD bytes 0 0)))
+    (inRangeAfter before r) e
   where
     r : Record
     r = recordAt bytes (kindOf (getD bytes 0 0))
@@ -162,20 +164,6 @@ misplaced-first bytes k p e m = go (eqb (length bytes) 0) (isKind (getD bytes 0 
     go false true false true true e = let z : _≡_ {A = ℕ} 0 1 = cc in absurd (omega arith)
     go false true false true false e = absurd (omega (arith, reader-same 5 0 k p e, m))
     go false true false false f e = refl
-    go false false c d f e = absurd (omega (arith, reader-same 2 0 k p e, m))
-
-misplaced-later : (bytes : List ℕ) (h : Header) (k p : ℕ) → readerAnswers bytes (Before.Header h) ≡ Read.Refused k p → k ≡ headerMisplaced → isHeader (kindOf (getD bytes 0 0)) ≡ true
-misplaced-later bytes h k p e m = go (eqb (length bytes) 0) (isKind (getD bytes 0 0)) (leb (length bytes) (bodyLength (kindOf (getD bytes 0 0)))) (isHeader (kindOf (getD bytes 0 0))) (inRangeAfter (Before.Header h) r) e
-  where
-    r : Record
-    r = recordAt bytes (kindOf (getD bytes 0 0))
-
-    go : (a b c d f : Bool) → cond a (refused 1) (cond b (cond c (refused 3) (cond (not d) (ranged r f) (refused 4))) (refused 2)) ≡ Read.Refused k p → d ≡ true
-    go true b c d f e = absurd (omega (arith, reader-same 1 0 k p e, m))
-    go false true true d f e = absurd (omega (arith, reader-same 3 0 k p e, m))
-    go false true false true f e = refl
-    go false true false false true e = let z : _≡_ {A = ℕ} 0 1 = cc in absurd (omega arith)
-    go false true false false false e = absurd (omega (arith, reader-same 5 0 k p e, m))
     go false false c d f e = absurd (omega (arith, reader-same 2 0 k p e, m))
 
 refusal-same : (k p j q : ℕ) → Refused k p ≡ Refused j q → (k ≡ j) × (p ≡ q)
@@ -207,7 +195,7 @@ inside h place (x ∷ bytes) zero k p e m = go (isHeader (kindOf x)) refl (λ e.
         let size : l - 1 ≡ bodyLength (kindOf x) = omega (arith, read-untested (x ∷ take n bytes) (Before.Header h) r l y .1) in
         never (ap (stepsFrom h (suc place) (take n bytes)) (sym size) ∙ with-refused (recordStep r) (stepsFrom h (suc place) (take n bytes) (l - 1)) k p e)
     read (Read.Refused j i) y q never e =
-        not-header (isHeader (kindOf x)) (misplaced-later (x ∷ take n bytes) h j i y (refusal-same j (place + i) k p e .0 ∙ m)) q
+        not-header (isHeader (kindOf x)) (not-false (isHeader (kindOf x)) (misplaced (x ∷ take n bytes) (Before.Header h) j i y (refusal-same j (place + i) k p e .0 ∙ m))) q
 
     go : (b : Bool) → isHeader (kindOf x) ≡ b → (stepsFrom h (suc place) (take n bytes) (bodyLength (kindOf x)) ≡ Refused k p → ⊥)
         → stepsFrom h place (take (cond b 0 (suc n)) (x ∷ bytes)) 0 ≡ Refused k p → ⊥
@@ -237,7 +225,7 @@ part-misplaced x f k p e m = go (ltb longest (length part)) e
         absurd (inside h 1 f body k p (from ∙ e) m)
     by-first (Read.Refused j i) y e =
         let same = refusal-same j i k p e in
-        (sym (same .1) ∙ refused-at-first part Before.Nothing j i y, misplaced-first part j i y (same .0 ∙ m))
+        (sym (same .1) ∙ refused-at-first part Before.Nothing j i y, misplaced part Before.Nothing j i y (same .0 ∙ m))
 
     go : (b : Bool) → cond b (Refused emptyOrTooLong 0) (stepsAfter part (readerAnswers part Before.Nothing)) ≡ Refused k p → (p ≡ 0) × (isHeader (kindOf x) ≡ false)
     go true e = absurd (omega (arith, refusal-same emptyOrTooLong 0 k p e .0, m))

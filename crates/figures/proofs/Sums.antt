@@ -1,4 +1,4 @@
--- Sums, largest numbers and first places of lists: one number more at the end, and what the first largest is. Assumes nothing.
+-- Sums, largest numbers and first places of lists: one number more at the end, sums in another order, and what the first largest is. Assumes nothing.
 use mathlib.Core.Path.{_≡_, refl, sym, ap, _∙_}
 use mathlib.Core.Logic.{_⊎_, inl, inr, ⊎-elim, _≢_}
 use mathlib.Core.Bool.{Bool, true, false, cond}
@@ -6,7 +6,7 @@ use mathlib.Core.List.{List, [], _∷_, _++_, map}
 use Prim.Native.Nat.{ℕ, zero, suc, _+_, _-_, _≤_, _<_}
 use native.Mathlib.Omega.{arith}
 use lib.Dec.{eqb, ltb}
-use lib.ListN.{length, getD}
+use lib.ListN.{length, getD, take}
 use borrow.Author.Tests.{ltb-true, ltb-false, lt-ltb, le-ltb, eqb-true, eqb-false, eq-eqb, ne-eqb}
 use Rattle.number.specs.Table.{tabulate}
 use Rattle.number.proofs.Table.{length-tabulate, getD-tabulate, tabulate-list}
@@ -19,14 +19,6 @@ pub sum-more : (l : List ℕ) (x : ℕ) → sum (l ++ (x ∷ [])) ≡ sum l + x
 unfolding sum
 sum-more [] x = omega arith
 sum-more (y ∷ l) x = omega (arith, sum-more l x)
-
-pub map-more : {A B : Type 0} (f : A → B) (l : List A) (x : A) → map f (l ++ (x ∷ [])) ≡ map f l ++ (f x ∷ [])
-map-more f [] x = refl
-map-more {A} {B} f (y ∷ l) x = ap {B = List B} (λ r. f y ∷ r) (map-more f l x)
-
-pub length-map : {A B : Type 0} (f : A → B) (l : List A) → length (map f l) ≡ length l
-length-map f [] = refl
-length-map f (x ∷ l) = ap suc (length-map f l)
 
 -- Tables of numbers
 
@@ -51,6 +43,20 @@ sum-at (suc k) f zero small none = omega (arith, sum-none k (λ p. f (suc p)) (�
 sum-at (suc k) f (suc q) small none =
     omega (arith, none 0 (λ e. omega (arith, e)), sum-at k (λ p. f (suc p)) q (omega arith) (λ p ne. none (suc p) (λ e. ne (omega (arith, e)))))
 
+-- rows of numbers, added by places and then together, or row by row
+pub sum-exchange : {A : Type 0} (k : ℕ) (f : A → ℕ → ℕ) (l : List A) → sum (tabulate k (λ p. sum (map (λ x. f x p) l))) ≡ sum (map (λ x. sum (tabulate k (f x))) l)
+unfolding sum
+sum-exchange k f [] = sum-none k (λ p. 0) (λ p. refl)
+sum-exchange k f (x ∷ l) = sum-add k (f x) (λ p. sum (map (λ y. f y p) l)) ∙ ap (λ n. sum (tabulate k (f x)) + n) (sum-exchange k f l)
+
+-- nothing but at the first places
+pub sum-front : (k : ℕ) (l : List ℕ) → ((i : ℕ) → k ≤ i → getD l i 0 ≡ 0) → sum (take k l) ≡ sum l
+unfolding sum
+sum-front zero [] none = refl
+sum-front zero (x ∷ l) none = omega (arith, none 0 (omega arith), sum-front zero l (λ i h. none (suc i) (omega arith)))
+sum-front (suc k) [] none = refl
+sum-front (suc k) (x ∷ l) none = ap (λ n. x + n) (sum-front k l (λ i h. none (suc i) (omega arith)))
+
 -- The largest
 
 pub larger-cases : (a b : ℕ) → ((a < b) × (larger a b ≡ b)) ⊎ ((b ≤ a) × (larger a b ≡ a))
@@ -66,7 +72,7 @@ larger-right a b h = ap (λ t. cond t b a) (lt-ltb a b h)
 larger-left : (a b : ℕ) → b ≤ a → larger a b ≡ a
 larger-left a b h = ap (λ t. cond t b a) (le-ltb a b h)
 
-larger-le : (a b : ℕ) → (a ≤ larger a b) × (b ≤ larger a b)
+pub larger-le : (a b : ℕ) → (a ≤ larger a b) × (b ≤ larger a b)
 larger-le a b = ⊎-elim (λ x. (omega (arith, x .0, x .1), omega (arith, x .0, x .1))) (λ x. (omega (arith, x .0, x .1), omega (arith, x .0, x .1))) (larger-cases a b)
 
 larger-assoc : (a b c : ℕ) → larger a (larger b c) ≡ larger (larger a b) c

@@ -1,9 +1,9 @@
--- Request 2026-06, figures for a whole class, each taken from the single reports of its schedules. Assumes nothing.
+-- Requests 2026-06 and 2026-07, figures for a whole class, each taken from the single reports of its schedules. Assumes nothing.
 use mathlib.Core.Bool.{Bool, false, cond, not, _&&_, _||_}
 use mathlib.Core.List.{List, [], _∷_, map}
 use Prim.Native.Nat.{ℕ, suc, _/_, _%_}
 use lib.Dec.{eqb}
-use lib.ListN.{length}
+use lib.ListN.{length, replicate}
 use Rattle.number.specs.Refusal.{accepted}
 use Rattle.number.specs.Table.{tabulate}
 use Rattle.store.specs.Log.{places}
@@ -51,6 +51,14 @@ callsOf s p = countAt (formOf (s .header .kind)) (tailReported s) p
 abbrev pub callsIn : Schedule → ℕ
 callsIn s = sum (tabulate (suc places) (callsOf s))
 
+-- how many sites it has: its n
+abbrev pub sitesOf : Schedule → ℕ
+sitesOf s = s .header .n
+
+-- request 2026-07: for each party 0 to 32, its calls over all schedules
+abbrev pub columnOf : List Schedule → List ℕ
+columnOf ss = tabulate (suc places) (λ p. sum (map (λ s. callsOf s p) ss))
+
 -- how many schedules pass a test
 abbrev pub countOf : (Schedule → Bool) → List Schedule → ℕ
 countOf test ss = sum (map (λ s. cond (test s) 1 0) ss)
@@ -62,25 +70,29 @@ totalsOf ss =
       commit = countOf (reports Outcome.Commit) ss;
       abort = countOf (reports Outcome.Abort) ss;
       neither = countOf reportsNeither ss;
-      calls = sum (map callsIn ss);
       largest = largest (map callsIn ss);
       first = firstPlace (largest (map callsIn ss)) (map callsIn ss);
+      sites = largest (map sitesOf ss);
     }
 
--- with the mean as a whole part, and a remainder over the number of schedules
-abbrev pub withMean : Totals → Figures
-withMean t = record { totals = t; mean = t .calls / t .schedules; remainder = t .calls % t .schedules }
+-- with all calls, and their mean as a whole part and a remainder over the number of schedules
+abbrev pub withMean : Totals → List ℕ → ℕ → Figures
+withMean t column calls = record { totals = t; column = column; calls = calls; mean = calls / t .schedules; remainder = calls % t .schedules }
 
 abbrev pub figuresOf : List Schedule → Figures
-figuresOf ss = withMean (totalsOf ss)
+figuresOf ss = withMean (totalsOf ss) (columnOf ss) (sum (map callsIn ss))
 
 -- no total comes with a refusal
 
 abbrev pub noTotals : Totals
-noTotals = record { schedules = 0; commit = 0; abort = 0; neither = 0; calls = 0; largest = 0; first = 0 }
+noTotals = record { schedules = 0; commit = 0; abort = 0; neither = 0; largest = 0; first = 0; sites = 0 }
+
+abbrev pub noColumn : List ℕ
+noColumn = replicate (suc places) 0
 
 abbrev pub refusedWith : ℕ → ℕ → Answer
-refusedWith k place = record { number = k; place = place; figures = record { totals = noTotals; mean = 0; remainder = 0 } }
+refusedWith k place =
+    record { number = k; place = place; figures = record { totals = noTotals; column = noColumn; calls = 0; mean = 0; remainder = 0 } }
 
 abbrev pub answerWith : Figures → Answer
 answerWith f = record { number = accepted; place = 0; figures = f }

@@ -1,5 +1,5 @@
 -- What is promised of class figures, for every file: they are taken from the single runs, nothing of a file is lost, a refusal is the first from the
--- left, each schedule counts once, and no figure is too large. Proved in proofs/. Assumes nothing.
+-- left, each schedule counts once, no figure is too large, and the calls are the same by party and by schedule. Proved in proofs/. Assumes nothing.
 use mathlib.Core.Path.{_≡_}
 use mathlib.Core.Bool.{true, false, cond, _&&_}
 use mathlib.Core.List.{List, [], _∷_, _++_, flatten, map}
@@ -19,7 +19,8 @@ use Rattle.marker.specs.Run.{runAnswers, runLeaves}
 use Rattle.parts.specs.Parts.{parts}
 use Rattle.figures.specs.Types.{Step, Release, Outcome, Written, Figures}
 use Rattle.figures.specs.Class.{Schedule, Class, NoClass, readClass, bytesOf, classBytes, ScheduleInRange, AllSchedulesInRange}
-use Rattle.figures.specs.Figures.{reportOf, reports, callsOf, callsIn, figuresOf, answerWith, refusedWith, classAnswers}
+use Rattle.figures.specs.Sums.{sum}
+use Rattle.figures.specs.Figures.{reportOf, reports, callsOf, callsIn, sitesOf, figuresOf, answerWith, refusedWith, classAnswers}
 
 -- "Each total is shown equal to the same figure taken from the single reports": each schedule of an accepted file is accepted by itself, and wherever
 -- there is room the marker leaves the report that the figures are taken from
@@ -108,18 +109,18 @@ pub record CountsOnce : Type 0 where
 -- "The mean as a whole part and a remainder over the number of schedules"
 
 abbrev pub MeanOf : Figures → Type 0
-MeanOf f = (f .totals .calls ≡ f .mean * f .totals .schedules + f .remainder) × (f .remainder < f .totals .schedules)
+MeanOf f = (f .calls ≡ f .mean * f .totals .schedules + f .remainder) × (f .remainder < f .totals .schedules)
 
 abbrev pub MeanExact : Type 0
 MeanExact = (file : List ℕ) (ss : List Schedule) → readClass file ≡ Class ss → MeanOf (figuresOf ss)
 
 -- "The largest number of calls and the first schedule that has it, counted from 1": that schedule has it, none has more, and those before have fewer
 
-pub record FirstLargest (calls : List ℕ) (most first : ℕ) : Type 0 where
-  pub counted : (0 < first) × (first ≤ length calls)
-  pub there : getD calls (first - 1) 0 ≡ most
-  pub none-above : (i : ℕ) → getD calls i 0 ≤ most
-  pub fewer-before : (i : ℕ) → suc i < first → getD calls i 0 < most
+pub record FirstLargest (numbers : List ℕ) (most first : ℕ) : Type 0 where
+  pub counted : (0 < first) × (first ≤ length numbers)
+  pub there : getD numbers (first - 1) 0 ≡ most
+  pub none-above : (i : ℕ) → getD numbers i 0 ≤ most
+  pub fewer-before : (i : ℕ) → suc i < first → getD numbers i 0 < most
 
 abbrev pub LargestFirst : Type 0
 LargestFirst =
@@ -128,4 +129,33 @@ LargestFirst =
 -- A header and a store call have a record of three bytes at least: so no sum is too large for its number
 abbrev pub FiguresFit : Type 0
 FiguresFit =
-    (file : List ℕ) (ss : List Schedule) → readClass file ≡ Class ss → 3 * (figuresOf ss .totals .schedules + figuresOf ss .totals .calls) ≤ length file
+    (file : List ℕ) (ss : List Schedule) → readClass file ≡ Class ss → 3 * (figuresOf ss .totals .schedules + figuresOf ss .calls) ≤ length file
+
+-- Request 2026-07, "for each party 0 to 32, its calls over all schedules": of any schedules
+
+pub record ColumnAdded (ss : List Schedule) (f : Figures) : Type 0 where
+  pub parties : length (f .column) ≡ suc places
+  -- each entry is the figure taken from the single reports
+  pub party : (p : ℕ) → p ≤ places → getD (f .column) p 0 ≡ sum (map (λ s. callsOf s p) ss)
+  -- "The grand total is added from the column, and is shown equal for every file to adding schedule by schedule"
+  pub from-column : f .calls ≡ sum (f .column)
+  pub by-schedule : f .calls ≡ sum (map callsIn ss)
+
+abbrev pub ColumnTotal : Type 0
+ColumnTotal = (ss : List Schedule) → ColumnAdded ss (figuresOf ss)
+
+-- of a file: an entry is what the rules count for that party, and 0 where no schedule has it; the parties up to the largest n have all calls
+
+pub record ColumnByRules : Type 0 where
+  pub party : (file : List ℕ) (ss : List Schedule) → readClass file ≡ Class ss
+      → (p : ℕ) → p ≤ places → getD (figuresOf ss .column) p 0 ≡ sum (map (λ s. callsMade p (freshOf (s .header)) (s .steps)) ss)
+  pub beyond : (file : List ℕ) (ss : List Schedule) → readClass file ≡ Class ss
+      → (p : ℕ) → figuresOf ss .totals .sites < p → getD (figuresOf ss .column) p 0 ≡ 0
+  pub up-to-sites : (file : List ℕ) (ss : List Schedule) → readClass file ≡ Class ss
+      → sum (take (suc (figuresOf ss .totals .sites)) (figuresOf ss .column)) ≡ figuresOf ss .calls
+
+-- the largest n: some schedule has it, and none has more
+abbrev pub LargestSites : Type 0
+LargestSites =
+    (file : List ℕ) (ss : List Schedule) → readClass file ≡ Class ss
+    → (figuresOf ss .totals .sites ≤ places) × ((first : ℕ) × FirstLargest (map sitesOf ss) (figuresOf ss .totals .sites) first)

@@ -2,13 +2,13 @@
 use mathlib.Core.Path.{_≡_, refl, ap, ap₂}
 use mathlib.Core.Bool.{Bool}
 use mathlib.Core.List.{List, [], _∷_, _++_, map, append-assoc}
-use Prim.Native.Nat.{ℕ, zero, suc, _+_, _*_, _≤_, _<_}
-use native.Mathlib.Nat.{mul-suc}
+use Prim.Native.Nat.{ℕ, suc, _+_, _≤_, _<_}
 use native.Mathlib.Omega.{arith}
 use lib.ListN.{length, getD, take, length-append}
 use Rattle.text.specs.Text.{ascii, decimal}
 use Rattle.text.specs.Put.{each}
 use Rattle.text.proofs.Laws.{decimal-length}
+use Rattle.text.proofs.Putting.{each-few}
 use Rattle.rules.specs.Report.{stepByte}
 use Rattle.rules.proofs.Bytes.{byte-says}
 use Rattle.store.specs.Log.{empty, places}
@@ -28,15 +28,6 @@ lines-reports k [] = refl
 lines-reports k (t ∷ ts) = ap₂ (λ (x y : List ℕ). decimal k ++ (x ++ y)) (byte-report t) (lines-reports (suc k) ts)
 
 -- Lengths
-
--- the texts of the first n elements, where each has at most so many bytes
-each-few : {A : Type 0} (f : A → List ℕ) (d : A) (most n : ℕ) (xs : List A) → ((i : ℕ) → length (f (getD xs i d)) ≤ most)
-    → length (each f (take n xs)) ≤ most * n
-unfolding each
-each-few f d most zero xs few = omega arith
-each-few f d most (suc n) [] few = omega arith
-each-few f d most (suc n) (x ∷ xs) few =
-    omega (arith, few 0, each-few f d most n xs (λ i. few (suc i)), length-append (f x) (each f (take n xs)), mul-suc most n)
 
 module _ (r : Release) where
   -- the five parts that are put

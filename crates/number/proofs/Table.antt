@@ -26,6 +26,12 @@ upTo-set {A} (suc i) f (x ∷ l) = ap {B = List A} (λ r. f 0 ∷ r) (upTo-set i
 pub upTo-next : {A : Type 0} (i : ℕ) (f : ℕ → A) (l s : List A) (x : A) → s ≡ upTo i f l → x ≡ f i → set s i x ≡ upTo (i + 1) f l
 upTo-next i f l s x p q = rw (p, q, add-one i) (upTo-set i f l)
 
+-- the element that comes next is as it was
+pub upTo-here : {A : Type 0} (i : ℕ) (f : ℕ → A) (l : List A) (d : A) → getD (upTo i f l) i d ≡ getD l i d
+upTo-here zero f l d = refl
+upTo-here (suc i) f [] d = refl
+upTo-here (suc i) f (x ∷ l) d = upTo-here i (λ j. f (suc j)) l d
+
 upTo-length : {A : Type 0} (f : ℕ → A) (l : List A) → upTo (length l) f l ≡ tabulate (length l) f
 unfolding tabulate
 upTo-length f [] = refl

@@ -1,11 +1,11 @@
 -- A part read from the numbers of a release is that part of it, and the numbers with a part put are those of the release with that part. Assumes
 -- nothing.
 use mathlib.Core.Path.{_≡_, refl, sym, ap, ap₂, _∙_}
-use mathlib.Core.List.{List, [], map, flatten}
+use mathlib.Core.List.{List, [], map, flatten, append-nil}
 use Prim.Native.Nat.{ℕ, suc, _+_, _<_}
 use native.Mathlib.Omega.{arith}
 use lib.Dec.{lit<}
-use lib.ListN.{length, getD, set, length-map, length-set, List·getD-map}
+use lib.ListN.{length, getD, drop, set, length-map, length-set, List·getD-map}
 use Rattle.store.specs.Log.{places}
 use Rattle.participant.specs.Participant
 use Rattle.participant.proofs.Numbers.{participant-numbers}
@@ -15,7 +15,7 @@ use Rattle.rules.specs.State.{types, waiting, participantOf, messagePlace, mask
 use Rattle.rules.specs.Step.{withMask, withParticipant, withCoordinator, counted}
 use Rattle.state.specs.Types.{Message, Participant, Coordinator, Site, Release}
 use Rattle.state.specs.Fields.{siteState, siteHeard, pieces, fields, messagesFrom, statesFrom, heardFrom, countsFrom, HasPlaces, votesIn, coordinatorIn, maskPlace, maskIn, participantIn, withCoordinatorIn, withMaskIn, withParticipantIn, countedIn, withMessages, withCalls}
-use Rattle.state.proofs.Pieces.{begins, begins-set, read-piece, put-piece, set-map}
+use Rattle.state.proofs.Pieces.{begins, begins-set, read-piece, drop-piece, put-piece, set-map}
 
 mask-room : (m : Message) → messagePlace m < types
 mask-room Message.Request = lit< tt
@@ -90,6 +90,11 @@ module _ (r : Release) (h : HasPlaces r) where
 
   pub count-in : (p : ℕ) → p < suc places → getD (fields r) (countsFrom + p) 0 ≡ getD (r .calls) p 0
   count-in p g = read 4 countsFrom p (begin .counts) (omega (arith, h .calls))
+
+  -- they are the last numbers
+  pub counts-last : drop countsFrom (fields r) ≡ r .calls
+  unfolding fields flatten
+  counts-last = ap (λ k. drop k (fields r)) (sym (begin .counts)) ∙ drop-piece (pieces r) 4 ∙ append-nil (r .calls)
 
   -- parts put
 

@@ -3,8 +3,8 @@ use mathlib.Core.Path.{_≡_, refl, ap, _∙_}
 use mathlib.Core.List.{List, [], _∷_, _++_, map, flatten}
 use Prim.Native.Nat.{ℕ, zero, suc, _+_, _<_}
 use native.Mathlib.Omega.{arith}
-use lib.ListN.{length, getD, set, List·getD-append}
-use lib.Seq.{getD-append-add, set-append-left}
+use lib.ListN.{length, getD, drop, set, List·getD-append}
+use lib.Seq.{drop-append-add, getD-append-add, set-append-left}
 
 -- where piece k begins
 abbrev pub begins : List (List ℕ) → ℕ → ℕ
@@ -24,6 +24,13 @@ read-piece (p ∷ ps) zero i h = let e : 0 + i ≡ i = omega arith in rw e (List
 read-piece (p ∷ ps) (suc k) i h =
     let e : length p + begins ps k + i ≡ length p + (begins ps k + i) = omega arith in
     rw e (getD-append-add p (flatten ps) (begins ps k + i) 0 ∙ read-piece ps k i h)
+
+-- the list from a piece on
+pub drop-piece : (ps : List (List ℕ)) (k : ℕ) → drop (begins ps k) (flatten ps) ≡ flatten (drop k ps)
+unfolding flatten
+drop-piece ps zero = refl
+drop-piece [] (suc k) = refl
+drop-piece (p ∷ ps) (suc k) = drop-append-add p (flatten ps) (begins ps k) ∙ drop-piece ps k
 
 pub put-piece : (ps : List (List ℕ)) (k i v : ℕ) → i < length (getD ps k [])
     → set (flatten ps) (begins ps k + i) v ≡ flatten (set ps k (set (getD ps k []) i v))

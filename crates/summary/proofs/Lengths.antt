@@ -5,7 +5,7 @@ use Prim.Native.Nat.{ℕ, _+_}
 use lib.ListN.{length, length-append}
 use Rattle.text.specs.Text.{ascii, decimal}
 use Rattle.summary.specs.Types.{Totals, Figures}
-use Rattle.summary.specs.Summary.{numberText, lineText, countsText, meanText, largestText, figuresText}
+use Rattle.summary.specs.Summary.{numberText, lineText, countsText, partyText, columnText, callsText, meanText, largestText, figuresText}
 
 pub number-long : (word : List ℕ) (k : ℕ) → length (numberText word k) ≡ length word + length (decimal k)
 number-long word k = length-append word (decimal k)
@@ -34,20 +34,25 @@ module _ (t : Totals) where
   abbrev four : List ℕ
   four = lineText (ascii "neither ") (t .neither)
 
-  abbrev five : List ℕ
-  five = lineText (ascii "calls ") (t .calls)
-
-  pub counts-long : length (countsText t) ≡ length one + (length two + (length three + (length four + length five)))
+  pub counts-long : length (countsText t) ≡ length one + (length two + (length three + length four))
   counts-long =
-      length-append one (two ++ (three ++ (four ++ five)))
-      ∙ ap (λ k. length one + k) (length-append two (three ++ (four ++ five)) ∙ ap (λ k. length two + k) (length-append three (four ++ five) ∙ ap (λ k. length three + k) (length-append four five)))
+      length-append one (two ++ (three ++ four))
+      ∙ ap (λ k. length one + k) (length-append two (three ++ four) ∙ ap (λ k. length two + k) (length-append three four))
+
+pub party-long : (p k : ℕ) → length (partyText p k) ≡ length (numberText (ascii "party ") p) + length (lineText (ascii " ") k)
+party-long p k = length-append (numberText (ascii "party ") p) (lineText (ascii " ") k)
 
 module _ (f : Figures) where
+  pub calls-long : length (callsText f) ≡ length (lineText (ascii "calls ") (f .calls)) + length (columnText (f .totals .sites) (f .column))
+  calls-long = length-append (lineText (ascii "calls ") (f .calls)) (columnText (f .totals .sites) (f .column))
+
   abbrev mean : List ℕ
   mean = meanText (f .mean) (f .remainder) (f .totals .schedules)
 
   abbrev most : List ℕ
   most = largestText (f .totals .largest) (f .totals .first)
 
-  pub figures-long : length (figuresText f) ≡ length (countsText (f .totals)) + (length mean + length most)
-  figures-long = length-append (countsText (f .totals)) (mean ++ most) ∙ ap (λ k. length (countsText (f .totals)) + k) (length-append mean most)
+  pub figures-long : length (figuresText f) ≡ length (countsText (f .totals)) + (length (callsText f) + (length mean + length most))
+  figures-long =
+      length-append (countsText (f .totals)) (callsText f ++ (mean ++ most))
+      ∙ ap (λ k. length (countsText (f .totals)) + k) (length-append (callsText f) (mean ++ most) ∙ ap (λ k. length (callsText f) + k) (length-append mean most))

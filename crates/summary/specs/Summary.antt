@@ -1,11 +1,13 @@
 -- The summary of a class file: the text that program `class` prints. Assumes nothing.
 use mathlib.Core.Bool.{cond}
 use mathlib.Core.List.{List, _++_}
-use Prim.Native.Nat.{ℕ, _≤_}
+use Prim.Native.Nat.{ℕ, suc, _≤_}
 use lib.Dec.{eqb}
-use lib.ListN.{length}
+use lib.ListN.{length, getD}
 use Rattle.number.specs.Refusal.{Handed, accepted}
+use Rattle.number.specs.Table.{tabulate}
 use Rattle.text.specs.Text.{ascii, decimal, refusalLine}
+use Rattle.text.specs.Put.{each}
 use Rattle.writer.specs.Writer.{textAnswer, textLeft, writtenHands}
 use Rattle.figures.specs.Class.{ClassReading, Class, NoClass, readClass}
 use Rattle.figures.specs.Figures.{figuresOf}
@@ -24,8 +26,21 @@ lineText word k = numberText word k ++ ascii "\n"
 abbrev pub countsText : Totals → List ℕ
 countsText t =
     lineText (ascii "schedules ") (t .schedules)
-    ++ (lineText (ascii "commit ") (t .commit)
-    ++ (lineText (ascii "abort ") (t .abort) ++ (lineText (ascii "neither ") (t .neither) ++ lineText (ascii "calls ") (t .calls))))
+    ++ (lineText (ascii "commit ") (t .commit) ++ (lineText (ascii "abort ") (t .abort) ++ lineText (ascii "neither ") (t .neither)))
+
+-- request 2026-07: all calls, and a line for each party from 0 up to the largest n
+
+abbrev pub partyText : ℕ → ℕ → List ℕ
+partyText p k = numberText (ascii "party ") p ++ lineText (ascii " ") k
+
+abbrev pub parties : ℕ → List ℕ
+parties sites = tabulate (suc sites) (λ p. p)
+
+abbrev pub columnText : ℕ → List ℕ → List ℕ
+columnText sites column = each (λ p. partyText p (getD column p 0)) (parties sites)
+
+abbrev pub callsText : Figures → List ℕ
+callsText f = lineText (ascii "calls ") (f .calls) ++ columnText (f .totals .sites) (f .column)
 
 -- the whole part, and the remainder over the number of schedules
 abbrev pub meanText : ℕ → ℕ → ℕ → List ℕ
@@ -36,7 +51,9 @@ abbrev pub largestText : ℕ → ℕ → List ℕ
 largestText largest first = numberText (ascii "largest ") largest ++ lineText (ascii " in ") first
 
 abbrev pub figuresText : Figures → List ℕ
-figuresText f = countsText (f .totals) ++ (meanText (f .mean) (f .remainder) (f .totals .schedules) ++ largestText (f .totals .largest) (f .totals .first))
+figuresText f =
+    countsText (f .totals)
+    ++ (callsText f ++ (meanText (f .mean) (f .remainder) (f .totals .schedules) ++ largestText (f .totals .largest) (f .totals .first)))
 
 -- a refusal prints its line alone
 abbrev pub classText : ClassReading → List ℕ
@@ -50,10 +67,11 @@ summary file = classText (readClass file)
 abbrev pub answerText : Answer → List ℕ
 answerText a = cond (eqb (a .number) accepted) (figuresText (a .figures)) (refusalLine (a .number) (a .place))
 
--- a text of this length has room for every summary: ten numbers of at most five digits. Proved in proofs/Fits.antt
+-- a text of this length has room for every summary: ten numbers of at most five digits, and 33 lines of a party, whose number has at most two, with at
+-- most five. Proved in proofs/Fits.antt
 
 abbrev pub longestSummary : ℕ
-longestSummary = 113
+longestSummary = 608
 
 abbrev pub SummaryFits : Type 0
 SummaryFits = (file : List ℕ) → length (summary file) ≤ longestSummary

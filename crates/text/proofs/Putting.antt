@@ -1,8 +1,8 @@
 -- Bytes put one after the other: two parts, and a loop over a list. Assumes nothing.
 use mathlib.Core.Path.{_≡_, refl, sym, ap, ap₂, subst, _∙_}
 use mathlib.Core.List.{List, [], _∷_, _++_, append-nil, append-assoc}
-use Prim.Native.Nat.{ℕ, suc, _+_, _*_, _≤_, _<_}
-use native.Mathlib.Nat.{add-zero, zero-mul, suc-mul}
+use Prim.Native.Nat.{ℕ, zero, suc, _+_, _*_, _≤_, _<_}
+use native.Mathlib.Nat.{add-zero, zero-mul, suc-mul, mul-suc}
 use native.Mathlib.Numerals.{add-one}
 use native.Mathlib.Omega.{arith}
 use lib.ListN.{length, getD, take, drop, length-append, drop-of-length-le}
@@ -43,6 +43,15 @@ pub each-length : {A : Type 0} (f : A → List ℕ) (m : ℕ) → ((x : A) → l
 unfolding each
 each-length f m h [] = sym (zero-mul m)
 each-length f m h (x ∷ xs) = length-append (f x) (each f xs) ∙ omega (arith, h x, each-length f m h xs, suc-mul (length xs) m)
+
+-- the first n, each of at most so many bytes
+pub each-few : {A : Type 0} (f : A → List ℕ) (d : A) (most n : ℕ) (xs : List A) → ((i : ℕ) → length (f (getD xs i d)) ≤ most)
+    → length (each f (take n xs)) ≤ most * n
+unfolding each
+each-few f d most zero xs few = omega arith
+each-few f d most (suc n) [] few = omega arith
+each-few f d most (suc n) (x ∷ xs) few =
+    omega (arith, few 0, each-few f d most n xs (λ i. few (suc i)), length-append (f x) (each f (take n xs)), mul-suc most n)
 
 -- A loop that puts the bytes of each element
 

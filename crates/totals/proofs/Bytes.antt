@@ -1,4 +1,4 @@
--- Whether some byte says an outcome, one byte after another; and sums over the places of a table. Assumes nothing.
+-- Whether some byte says an outcome, one byte after another; and sums of lists, one number after another. Assumes nothing.
 use mathlib.Core.Path.{_≡_, refl, sym, ap, ap₂, _∙_}
 use mathlib.Core.Bool.{Bool, true, false, _||_, or-true, or-false, or-assoc}
 use mathlib.Core.List.{List}
@@ -6,12 +6,12 @@ use Prim.Native.Nat.{ℕ, zero, suc, _+_, _%_, _≤_, _<_}
 use native.Mathlib.Omega.{arith}
 use native.Mathlib.Numerals.{add-one}
 use lib.Dec.{eqb}
-use lib.ListN.{length, getD, drop, drop-of-length-le}
-use lib.Seq.{drop-cons}
-use Rattle.number.specs.Table.{tabulate}
+use lib.ListN.{length, getD, take, drop, drop-of-length-le}
+use lib.Seq.{drop-cons, take-suc}
 use Rattle.rules.specs.Report.{outcomeNumber, outcomeOf, outcomeIn, reportByte, closedAdds}
 use Rattle.figures.specs.Sums.{sum}
 use Rattle.figures.specs.Figures.{says, saidIn}
+use Rattle.figures.proofs.Sums.{sum-more}
 use Rattle.totals.specs.Types.{Outcome}
 
 -- a byte's number modulo 4 is that of the outcome that it says
@@ -47,12 +47,6 @@ pub said-all : (o : Outcome) (bytes : List ℕ) (i : ℕ) (found : Bool) → len
 unfolding saidIn
 said-all o bytes i found h = sym (ap (λ l. found || saidIn o l) (drop-of-length-le bytes h) ∙ or-false found)
 
--- one place more
-
-sum-suc : (k : ℕ) (f : ℕ → ℕ) → sum (tabulate (suc k) f) ≡ sum (tabulate k f) + f k
-unfolding sum tabulate
-sum-suc zero f = omega arith
-sum-suc (suc k) f = omega (arith, sum-suc k (λ i. f (suc i)))
-
-pub sum-next : (k : ℕ) (f : ℕ → ℕ) → sum (tabulate (k + 1) f) ≡ sum (tabulate k f) + f k
-sum-next k f = ap (λ i. sum (tabulate i f)) (add-one k) ∙ sum-suc k f
+-- one number more
+pub sum-next : (l : List ℕ) (p : ℕ) → p < length l → sum (take (p + 1) l) ≡ sum (take p l) + getD l p 0
+sum-next l p some = ap (λ k. sum (take k l)) (add-one p) ∙ ap sum (take-suc l p 0 some) ∙ sum-more (take p l) (getD l p 0)

@@ -2,12 +2,14 @@
 -- whole. Assumes nothing.
 use mathlib.Core.Path.{_≡_, refl, sym, ap, ap₂, subst, _∙_}
 use mathlib.Core.Bool.{cond}
-use mathlib.Core.List.{List, [], _∷_, _++_, map, append-assoc, append-nil}
+use mathlib.Core.List.{List, [], _∷_, _++_, map, map-append, append-assoc, append-nil}
 use Prim.Native.Nat.{ℕ, suc, _+_, _*_, _≤_, _<_}
 use native.Mathlib.Omega.{arith}
 use lib.Dec.{eqb, ltb}
-use lib.ListN.{length, getD, take, drop, length-append, length-drop, drop-of-length-le}
+use lib.ListN.{length, getD, take, drop, length-append, length-drop, length-map, drop-of-length-le}
 use lib.Seq.{drop-cons, drop-drop, length-take-le}
+use Rattle.number.specs.Table.{tabulate}
+use Rattle.store.specs.Log.{places}
 use Rattle.schedule.specs.Record.{longest}
 use Rattle.schedule.specs.Schedule.{Reading, Accepted, Refused, readSchedule}
 use Rattle.schedule.proofs.Reading.{SaysWhole, read-says}
@@ -16,33 +18,37 @@ use Rattle.passes.proofs.Passed.{refused}
 use Rattle.parts.specs.Parts.{parts, partsUpTo, partLength}
 use Rattle.parts.proofs.Laws.{first-part, part-le}
 use Rattle.figures.specs.Class.{Schedule, ClassReading, Class, NoClass, withSchedule, partThen, readParts}
-use Rattle.figures.specs.Sums.{sum, largest, firstPlace}
-use Rattle.figures.specs.Figures.{reports, reportsNeither, callsIn, totalsOf, noTotals, withMean, answerWith, refusedWith, classAnswer, classAnswers}
-use Rattle.figures.proofs.Sums.{sum-more, map-more, length-map, largest-more, first-more}
+use Rattle.figures.specs.Sums.{sum, larger, largest, firstPlace}
+use Rattle.figures.specs.Figures.{reports, reportsNeither, callsOf, callsIn, columnOf, sitesOf, totalsOf, figuresOf, noTotals, noColumn, withMean, answerWith, refusedWith, classAnswer, classAnswers}
+use Rattle.figures.proofs.Sums.{sum-more, table-same, largest-more, first-more}
 use Rattle.figures.proofs.Single.{schedule-most, read-whole}
 use Rattle.figures.proofs.Kept.{read-parts}
-use Rattle.figures.proofs.Fits.{count-few}
+use Rattle.figures.proofs.Column.{column-total}
+use Rattle.figures.proofs.Fits.{count-few, entry-few}
 use Rattle.totals.specs.Types.{Context, Outcome, Validated, Totals}
-use Rattle.totals.specs.Adding.{scheduleOf, scheduleAdded, Room, RefusedNear}
+use Rattle.totals.specs.Adding.{scheduleOf, scheduleAdded, callsAdded, Room, Entries, RefusedNear}
 use Rattle.totals.proofs.Run.{accepted}
 
 -- One schedule more
 
 same-totals : {a b c d e f g a′ b′ c′ d′ e′ f′ g′ : ℕ} → a ≡ a′ → b ≡ b′ → c ≡ c′ → d ≡ d′ → e ≡ e′ → f ≡ f′ → g ≡ g′
-    → _≡_ {A = Totals} (record { schedules = a; commit = b; abort = c; neither = d; calls = e; largest = f; first = g })
-    (record { schedules = a′; commit = b′; abort = c′; neither = d′; calls = e′; largest = f′; first = g′ })
+    → _≡_ {A = Totals} (record { schedules = a; commit = b; abort = c; neither = d; largest = e; first = f; sites = g })
+    (record { schedules = a′; commit = b′; abort = c′; neither = d′; largest = e′; first = f′; sites = g′ })
 same-totals p q r s t u v = rw (p, q, r, s, t, u, v) refl
 
 module _ (ss : List Schedule) (s : Schedule) where
   mapped : (f : Schedule → ℕ) → sum (map f (ss ++ (s ∷ []))) ≡ sum (map f ss) + f s
-  mapped f = ap sum (map-more f ss s) ∙ sum-more (map f ss) (f s)
+  mapped f = ap sum (map-append f ss (s ∷ [])) ∙ sum-more (map f ss) (f s)
+
+  largest-mapped : (f : Schedule → ℕ) → largest (map f (ss ++ (s ∷ []))) ≡ larger (largest (map f ss)) (f s)
+  largest-mapped f = ap largest (map-append f ss (s ∷ [])) ∙ largest-more (map f ss) (f s)
 
   first-mapped : firstPlace (largest (map callsIn (ss ++ (s ∷ [])))) (map callsIn (ss ++ (s ∷ [])))
       ≡ cond (eqb (length ss) 0) 1 (cond (ltb (largest (map callsIn ss)) (callsIn s)) (length ss + 1) (firstPlace (largest (map callsIn ss)) (map callsIn ss)))
   first-mapped =
-      ap (λ (l : List ℕ). firstPlace (largest l) l) (map-more callsIn ss s)
+      ap (λ (l : List ℕ). firstPlace (largest l) l) (map-append callsIn ss (s ∷ []))
       ∙ first-more (map callsIn ss) (callsIn s)
-      ∙ ap (λ k. cond (eqb k 0) 1 (cond (ltb (largest (map callsIn ss)) (callsIn s)) (k + 1) (firstPlace (largest (map callsIn ss)) (map callsIn ss)))) (length-map callsIn ss)
+      ∙ ap (λ k. cond (eqb k 0) 1 (cond (ltb (largest (map callsIn ss)) (callsIn s)) (k + 1) (firstPlace (largest (map callsIn ss)) (map callsIn ss)))) (length-map ss callsIn)
 
   pub totals-more : scheduleAdded (totalsOf ss) s ≡ totalsOf (ss ++ (s ∷ []))
   totals-more =
@@ -51,9 +57,14 @@ module _ (ss : List Schedule) (s : Schedule) where
       (sym (mapped (λ s. cond (reports Outcome.Commit s) 1 0)))
       (sym (mapped (λ s. cond (reports Outcome.Abort s) 1 0)))
       (sym (mapped (λ s. cond (reportsNeither s) 1 0)))
-      (sym (mapped callsIn))
-      (sym (ap largest (map-more callsIn ss s) ∙ largest-more (map callsIn ss) (callsIn s)))
+      (sym (largest-mapped callsIn))
       (sym first-mapped)
+      (sym (largest-mapped sitesOf))
+
+  pub column-more : callsAdded (columnOf ss) (callsOf s) ≡ columnOf (ss ++ (s ∷ []))
+  column-more =
+      table-same (suc places) (λ p. getD (columnOf ss) p 0 + callsOf s p) (λ p. sum (map (λ t. callsOf t p) (ss ++ (s ∷ []))))
+      (λ p g. ap (λ k. k + callsOf s p) (column-total ss .party p (omega arith)) ∙ sym (mapped (λ t. callsOf t p)))
 
 -- Schedules that are read before others
 
@@ -70,11 +81,12 @@ before-none (Class ss) = refl
 before-none (NoClass k place) = refl
 
 -- before the schedule that begins at `at`
-pub record Counting (file : List ℕ) (t : Totals) (at : ℕ) : Type 0 where
+pub record Counting (file : List ℕ) (t : Totals) (column : List ℕ) (at : ℕ) : Type 0 where
   pub within : at ≤ length file
   pub short : length file ≤ longest
   pub done : List Schedule
   pub counted : t ≡ totalsOf done
+  pub added : column ≡ columnOf done
   pub few : 3 * (length done + sum (map callsIn done)) ≤ at
   pub some : at ≤ length done * longest
   pub reads : readParts 0 (parts file) ≡ before done (readParts at (parts (drop at file)))
@@ -84,12 +96,25 @@ no-totals : noTotals ≡ totalsOf []
 unfolding sum largest firstPlace
 no-totals = refl
 
-pub set-out : (file : List ℕ) → length file ≤ longest → Counting file noTotals 0
+no-column : noColumn ≡ columnOf []
+unfolding sum tabulate
+no-column = refl
+
+pub set-out : (file : List ℕ) → length file ≤ longest → Counting file noTotals noColumn 0
 unfolding sum
 set-out file short =
-    record { within = omega arith; short = short; done = []; counted = no-totals; few = omega arith; some = omega arith; reads = before-none (readParts 0 (parts file)) }
+    record {
+      within = omega arith;
+      short = short;
+      done = [];
+      counted = no-totals;
+      added = no-column;
+      few = omega arith;
+      some = omega arith;
+      reads = before-none (readParts 0 (parts file));
+    }
 
-module _ {file : List ℕ} {t : Totals} {at : ℕ} (g : Counting file t at) where
+module _ {file : List ℕ} {t : Totals} {column : List ℕ} {at : ℕ} (g : Counting file t column at) where
   -- no total is too large
   pub room : Room t
   room =
@@ -101,8 +126,13 @@ module _ {file : List ℕ} {t : Totals} {at : ℕ} (g : Counting file t at) wher
         commit = omega (arith, most, here, short, count-few (reports Outcome.Commit) (g .done));
         abort = omega (arith, most, here, short, count-few (reports Outcome.Abort) (g .done));
         neither = omega (arith, most, here, short, count-few reportsNeither (g .done));
-        calls = omega (arith, most, here, short);
       })
+
+  pub entries : Entries column
+  entries = subst Entries (sym (g .added)) (record {
+    parties = column-total (g .done) .parties;
+    few = λ p. omega (arith, g .few, g .within, g .short, entry-few (g .done) p);
+  })
 
   module _ (more : at < length file) where
     abbrev size : ℕ
@@ -149,7 +179,7 @@ module _ {file : List ℕ} {t : Totals} {at : ℕ} (g : Counting file t at) wher
       abbrev this : Schedule
       this = scheduleOf c part
 
-      pub go-on : Counting file (scheduleAdded t this) (at + size)
+      pub go-on : Counting file (scheduleAdded t this) (callsAdded column (callsOf this)) (at + size)
       go-on =
           let e = accepted part c m v in
           let long = length-append (g .done) (this ∷ []) in
@@ -158,19 +188,26 @@ module _ {file : List ℕ} {t : Totals} {at : ℕ} (g : Counting file t at) wher
             short = g .short;
             done = g .done ++ (this ∷ []);
             counted = ap (λ (u : Totals). scheduleAdded u this) (g .counted) ∙ totals-more (g .done) this;
+            added = ap (λ (l : List ℕ). callsAdded l (callsOf this)) (g .added) ∙ column-more (g .done) this;
             few = omega (arith, g .few, schedule-most part this e, part-length, long, mapped (g .done) this callsIn);
             some = omega (arith, g .some, read-whole part this e .short, part-length, long);
             reads = read-first (Accepted (c .header) (this .steps)) e ∙ before-next (g .done) this (readParts (at + size) (parts (drop (at + size) file)));
           }
 
+  -- the total that is added from the column is that of the schedules
+  figures-are : withMean t column (sum column) ≡ figuresOf (g .done)
+  figures-are =
+      ap₂ (λ (u : Totals) (l : List ℕ). withMean u l (sum l)) (g .counted) (g .added)
+      ∙ ap (withMean (totalsOf (g .done)) (columnOf (g .done))) (sym (column-total (g .done) .from-column))
+
   -- at the end
-  pub arrived : length file ≤ at → 0 < length file → (0 < t .schedules) × (answerWith (withMean t) ≡ classAnswer (readParts 0 (parts file)))
+  pub arrived : length file ≤ at → 0 < length file → (0 < t .schedules) × (answerWith (withMean t column (sum column)) ≡ classAnswer (readParts 0 (parts file)))
   unfolding readParts partsUpTo
   arrived end some =
       let ds : List Schedule = g .done in
       let left : readParts 0 (parts file) ≡ Class ds =
       g .reads ∙ ap (λ (l : List ℕ). before ds (readParts at (parts l))) (drop-of-length-le file end) ∙ ap Class (append-nil ds) in
-      (rw (g .counted) (omega (arith, g .some, end, some)), ap (λ (u : Totals). answerWith (withMean u)) (g .counted) ∙ sym (ap classAnswer left))
+      (rw (g .counted) (omega (arith, g .some, end, some)), ap answerWith figures-are ∙ sym (ap classAnswer left))
 
 -- a file that is not empty and not too long
 pub answered : (file : List ℕ) → length file ≤ longest → 0 < length file → classAnswer (readParts 0 (parts file)) ≡ classAnswers file

@@ -1,4 +1,5 @@
-// The figures of a class file, added up from schedule to schedule. Each is validated and run as a single one is.
+// The figures of a class file, added up from schedule to schedule: totals, and a column with the calls of each party. Each schedule is validated and run
+// as a single one is.
 use effect::outcome::report_byte;
 use figures::Answer;
 use figures::Figures;
@@ -15,24 +16,20 @@ use rules::PARTIES;
 use schedule::Context;
 use schedule::LONGEST;
 use state::COUNTS;
-use state::FIELDS;
 use state::fresh;
 use store::Store;
 ghost use mathlib.Core.Path.{_≡_};
 ghost use mathlib.Core.Bool.{not, _&&_};
-ghost use Prim.Native.Nat.{suc, _≤_, _<_};
-ghost use lib.ListN.{length};
+ghost use Prim.Native.Nat.{_≤_, _<_};
+ghost use lib.ListN.{length, getD};
 ghost use lib.Seq.{sets};
-ghost use Rattle.number.specs.Table.{tabulate};
-ghost use Rattle.store.specs.Log.{places};
 ghost use Rattle.schedule.specs.Record.{longest};
 ghost use Rattle.schedule.specs.Schedule.{readSchedule};
-ghost use Rattle.state.specs.Fields.{callsIn};
 ghost use Rattle.passes.specs.Pass.{validated};
 ghost use Rattle.figures.specs.Sums.{sum, larger};
-ghost use Rattle.figures.specs.Figures.{stepsReported, says, saidIn, callsIn as callsReported, noTotals, withMean, refusedWith, classAnswers};
+ghost use Rattle.figures.specs.Figures.{stepsReported, says, saidIn, callsOf, callsIn as callsReported, noTotals, withMean, refusedWith, classAnswers};
 ghost use Rattle.totals.specs.Types.{Validated};
-ghost use Rattle.totals.specs.Adding.{oneMore, firstAfter, oneAdded, scheduleOf, scheduleAdded, refusedFrom, RefusedNear, Room, FewCalls};
+ghost use Rattle.totals.specs.Adding.{oneMore, firstAfter, oneAdded, scheduleOf, scheduleAdded, callsAdded, refusedFrom, RefusedNear, Room, Entries};
 
 // Whether a step's byte says the outcome.
 fn says(o: Outcome, byte: u8) -> bool
@@ -56,22 +53,41 @@ fn said(bytes: &[u8], o: Outcome) -> bool
     found
 }
 
-// The calls of all parties, by the numbers of a release.
-fn calls_in(numbers: &[u32; FIELDS]) -> usize
-    requires { ⌜ FewCalls (now numbers) ⌝ }
-    ensures { λ k. ⌜ k ≡ sum (tabulate (suc places) (callsIn (now (numbers .entry)))) ⌝ }
+// The calls of all parties, by those of each.
+fn sum_of(calls: &[u32]) -> usize
+    requires { ⌜ Entries (now calls) ⌝ }
+    ensures { λ k. ⌜ k ≡ sum (now (calls .entry)) ⌝ }
 {
     let mut total: u32 = 0;
-    for p in 0..PARTIES {
-        total = total + numbers[COUNTS + p];
+    let mut p: usize = 0;
+    while p < calls.len() {
+        total = total + calls[p];
+        p = p + 1;
     }
     total as usize
 }
 
-// Runs a schedule that was validated. Answers its calls, and leaves its step bytes at the front of the buffer.
-fn run_schedule(part: &[u8], context: Context, steps: usize, bytes: &mut [u8]) -> usize
-    requires { ⌜ (validated (readSchedule (now part)) ≡ Validated.Steps context steps) × (longest ≤ length (now bytes)) ⌝ }
+// Adds the calls of each party to its entry.
+fn add_calls(column: &mut [u32; PARTIES], calls: &[u32])
+    requires { ⌜ Entries (now column) × Entries (now calls) ⌝ }
+    ensures { λ _. ⌜ now (column .exit) ≡ callsAdded (now (column .entry)) (λ p. getD (now (calls .entry)) p 0) ⌝ }
+{
+    for p in 0..PARTIES {
+        column[p] = column[p] + calls[p];
+    }
+}
+
+// Runs a schedule that was validated. Answers its calls, adds them to the column, and leaves its step bytes at the front of the buffer.
+fn run_schedule(
+    part: &[u8],
+    context: Context,
+    steps: usize,
+    column: &mut [u32; PARTIES],
+    bytes: &mut [u8],
+) -> usize
+    requires { ⌜ (validated (readSchedule (now part)) ≡ Validated.Steps context steps) × (longest ≤ length (now bytes)) × Entries (now column) ⌝ }
     ensures { λ k. ⌜ (k ≡ callsReported (scheduleOf context (now (part .entry))))
+        × (now (column .exit) ≡ callsAdded (now (column .entry)) (callsOf (scheduleOf context (now (part .entry)))))
         × (now (bytes .exit) ≡ sets (now (bytes .entry)) 0 (stepsReported (scheduleOf context (now (part .entry))))) ⌝ }
 {
     let header = context.header;
@@ -86,7 +102,8 @@ fn run_schedule(part: &[u8], context: Context, steps: usize, bytes: &mut [u8]) -
         Store::empty(),
         bytes,
     );
-    calls_in(&numbers)
+    add_calls(column, &numbers[COUNTS..]);
+    sum_of(&numbers[COUNTS..])
 }
 
 fn one_more(k: usize, b: bool) -> usize
@@ -117,9 +134,9 @@ fn none() -> Totals
         commit: 0,
         abort: 0,
         neither: 0,
-        calls: 0,
         largest: 0,
         first: 0,
+        sites: 0,
     }
 }
 
@@ -139,45 +156,59 @@ fn first_after(t: Totals, calls: usize) -> usize
     }
 }
 
-// With one schedule more: whether its report says commit and abort, and its calls.
-fn with_one(t: Totals, commit: bool, abort: bool, calls: usize) -> Totals
-    requires { ⌜ Room t × (calls ≤ longest) ⌝ }
-    ensures { λ u. ⌜ u ≡ oneAdded t commit abort calls ⌝ }
+// With one schedule more: its n, whether its report says commit and abort, and its calls.
+fn with_one(t: Totals, n: usize, commit: bool, abort: bool, calls: usize) -> Totals
+    requires { ⌜ Room t ⌝ }
+    ensures { λ u. ⌜ u ≡ oneAdded t n commit abort calls ⌝ }
 {
     Totals {
         schedules: t.schedules + 1,
         commit: one_more(t.commit, commit),
         abort: one_more(t.abort, abort),
         neither: one_more(t.neither, neither(commit, abort)),
-        calls: t.calls + calls,
         largest: larger(t.largest, calls),
         first: first_after(t, calls),
+        sites: larger(t.sites, n),
     }
 }
 
-// With a schedule that was validated. Its step bytes are left in the buffer. A header alone needs no run: it makes no call and reports nothing.
-fn with_schedule(t: Totals, part: &[u8], context: Context, steps: usize, bytes: &mut [u8]) -> Totals
-    requires { ⌜ (validated (readSchedule (now part)) ≡ Validated.Steps context steps) × (longest ≤ length (now bytes)) × Room t ⌝ }
-    ensures { λ u. ⌜ u ≡ scheduleAdded t (scheduleOf context (now (part .entry))) ⌝ }
+// With a schedule that was validated. Its calls are added to the column, and its step bytes are left in the buffer. A header alone needs no run: it
+// makes no call and reports nothing.
+fn with_schedule(
+    t: Totals,
+    part: &[u8],
+    context: Context,
+    steps: usize,
+    column: &mut [u32; PARTIES],
+    bytes: &mut [u8],
+) -> Totals
+    requires { ⌜ (validated (readSchedule (now part)) ≡ Validated.Steps context steps) × (longest ≤ length (now bytes)) × Room t × Entries (now column) ⌝ }
+    ensures { λ u. ⌜ (u ≡ scheduleAdded t (scheduleOf context (now (part .entry))))
+        × (now (column .exit) ≡ callsAdded (now (column .entry)) (callsOf (scheduleOf context (now (part .entry))))) ⌝ }
 {
+    let header = context.header;
+    let n = header.n as usize;
     if steps == 0 {
-        return with_one(t, false, false, 0);
+        return with_one(t, n, false, false, 0);
     }
-    let calls = run_schedule(part, context, steps, bytes);
+    let calls = run_schedule(part, context, steps, column, bytes);
     let commit = said(&bytes[..steps], Outcome::Commit);
     let abort = said(&bytes[..steps], Outcome::Abort);
-    with_one(t, commit, abort, calls)
+    with_one(t, n, commit, abort, calls)
 }
 
-// The totals with their mean.
-fn with_mean(t: Totals) -> Figures
-    requires { ⌜ 0 < t .schedules ⌝ }
-    ensures { λ f. ⌜ f ≡ withMean t ⌝ }
+// The totals and the column, with all calls, which are added from the column, and their mean.
+fn with_mean(t: Totals, column: [u32; PARTIES]) -> Figures
+    requires { ⌜ (0 < t .schedules) × Entries column ⌝ }
+    ensures { λ f. ⌜ f ≡ withMean t column (sum column) ⌝ }
 {
+    let calls = sum_of(&column);
     Figures {
         totals: t,
-        mean: t.calls / t.schedules,
-        remainder: t.calls % t.schedules,
+        column: column,
+        calls: calls,
+        mean: calls / t.schedules,
+        remainder: calls % t.schedules,
     }
 }
 
@@ -191,6 +222,8 @@ fn refused(k: u32, place: usize) -> Answer
         place: place,
         figures: Figures {
             totals: totals,
+            column: [0u32; PARTIES],
+            calls: 0,
             mean: 0,
             remainder: 0,
         },
@@ -219,6 +252,7 @@ pub fn class_figures(file: &[u8]) -> Answer
         return refused(EMPTY_OR_TOO_LONG, 0);
     }
     let mut bytes = [0u8; LONGEST];
+    let mut column = [0u32; PARTIES];
     let mut totals = none();
     let mut at: usize = 0;
     while at < file.len() {
@@ -227,12 +261,19 @@ pub fn class_figures(file: &[u8]) -> Answer
         let Validated::Steps(context, steps) = first else {
             return refused_from(at, first);
         };
-        totals = with_schedule(totals, &file[at..end], context, steps, &mut bytes);
+        totals = with_schedule(
+            totals,
+            &file[at..end],
+            context,
+            steps,
+            &mut column,
+            &mut bytes,
+        );
         at = end;
     }
     Answer {
         number: 0,
         place: 0,
-        figures: with_mean(totals),
+        figures: with_mean(totals, column),
     }
 }

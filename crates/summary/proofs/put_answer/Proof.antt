@@ -12,8 +12,8 @@ pub put-answer-spec : {M : Type 1} → statement M
 put-answer-spec =
     tie.close
     (tie.spec
-    (λ c κs. let start = c .before .before .before .before .before in omega (arith, start .pre, ap length (answer-figures (start .args .a) (c .before .before .if1 .taken))))
-    (λ c κs. let start = c .before .before .before .before in omega (arith, start .pre, ap length (answer-refusal (start .args .a) (c .before .if1 .left))))
+    (λ c κs. let start = c .before .before .before .before .before in (start .pre .0, omega (arith, start .pre .1, ap length (answer-figures (start .args .a) (c .before .before .if1 .taken)))))
+    (λ c κs. let start = c .before .before .before .before in omega (arith, start .pre .1, ap length (answer-refusal (start .args .a) (c .before .if1 .left))))
     (λ c. search needs)
     (λ c. put-same (sym (answer-figures (c .before .before .before .before .before .before .before .before .args .a) (c .before .before .before .before .before .if1 .taken))) (c .before .before .put-figures .ensures))
     (λ c. search needs)

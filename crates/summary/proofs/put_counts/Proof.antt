@@ -19,6 +19,4 @@ put-counts-spec =
     (λ c. search needs)
     (λ c κs. let start = c .before .before .before .before .before .before .before .before .before .before .before .before .before .before .before .before .before .before in omega (arith, start .pre, counts-long (start .args .t), c .before .before .before .before .put-line3 .ensures .ends, c .before .before .before .before .put-line3 .kept, c .before .before .before .before .before .before .before .before .before .put-line2 .ensures .ends, c .before .before .before .before .before .before .before .before .before .put-line2 .kept, c .before .before .before .before .before .before .before .before .before .before .before .before .before .before .put-line .ensures .ends, c .before .before .before .before .before .before .before .before .before .before .before .before .before .before .put-line .kept))
     (λ c. search needs)
-    (λ c κs. let start = c .before .before .before .before .before .before .before .before .before .before .before .before .before .before .before .before .before .before .before .before .before .before .before in omega (arith, start .pre, counts-long (start .args .t), c .before .before .before .before .put-line4 .ensures .ends, c .before .before .before .before .put-line4 .kept, c .before .before .before .before .before .before .before .before .before .put-line3 .ensures .ends, c .before .before .before .before .before .before .before .before .before .put-line3 .kept, c .before .before .before .before .before .before .before .before .before .before .before .before .before .before .put-line2 .ensures .ends, c .before .before .before .before .before .before .before .before .before .before .before .before .before .before .put-line2 .kept, c .before .before .before .before .before .before .before .before .before .before .before .before .before .before .before .before .before .before .before .put-line .ensures .ends, c .before .before .before .before .before .before .before .before .before .before .before .before .before .before .before .before .before .before .before .put-line .kept))
-    (λ c. search needs)
-    (λ c. put-then (c .before .before .before .before .before .before .before .before .before .before .before .before .before .before .before .before .before .before .before .before .before .before .put-line .ensures) (put-then (c .before .before .before .before .before .before .before .before .before .before .before .before .before .before .before .before .before .put-line2 .ensures) (put-then (c .before .before .before .before .before .before .before .before .before .before .before .before .put-line3 .ensures) (put-then (c .before .before .before .before .before .before .before .put-line4 .ensures) (c .before .before .put-line5 .ensures))))))
+    (λ c. put-then (c .before .before .before .before .before .before .before .before .before .before .before .before .before .before .before .before .before .put-line .ensures) (put-then (c .before .before .before .before .before .before .before .before .before .before .before .before .put-line2 .ensures) (put-then (c .before .before .before .before .before .before .before .put-line3 .ensures) (c .before .before .put-line4 .ensures)))))

@@ -10,8 +10,9 @@ pub put-figures-spec : {M : Type 1} → statement M
 put-figures-spec =
     tie.close
     (tie.spec
-    (λ c κs. let start = c .before .before .before in omega (arith, start .pre, figures-long (start .args .f)))
-    (λ c κs. let start = c .before .before .before .before .before .before .before in omega (arith, start .pre, figures-long (start .args .f), c .before .before .before .put-counts .ensures .ends, c .before .before .before .put-counts .kept))
-    (λ c κs. let start = c .before .before .before .before .before .before .before .before .before .before .before in omega (arith, start .pre, figures-long (start .args .f), c .before .before .before .put-mean .ensures .ends, c .before .before .before .put-mean .kept, c .before .before .before .before .before .before .before .put-counts .ensures .ends, c .before .before .before .before .before .before .before .put-counts .kept))
+    (λ c κs. let start = c .before .before .before in omega (arith, start .pre .1, figures-long (start .args .f)))
+    (λ c κs. let start = c .before .before .before .before .before .before .before in (start .pre .0, omega (arith, start .pre .1, figures-long (start .args .f), c .before .before .before .put-counts .ensures .ends, c .before .before .before .put-counts .kept)))
+    (λ c κs. let start = c .before .before .before .before .before .before .before .before .before .before .before in omega (arith, start .pre .1, figures-long (start .args .f), c .before .before .before .put-calls .ensures .ends, c .before .before .before .put-calls .kept, c .before .before .before .before .before .before .before .put-counts .ensures .ends, c .before .before .before .before .before .before .before .put-counts .kept))
+    (λ c κs. let start = c .before .before .before .before .before .before .before .before .before .before .before .before .before .before .before in omega (arith, start .pre .1, figures-long (start .args .f), c .before .before .before .put-mean .ensures .ends, c .before .before .before .put-mean .kept, c .before .before .before .before .before .before .before .put-calls .ensures .ends, c .before .before .before .before .before .before .before .put-calls .kept, c .before .before .before .before .before .before .before .before .before .before .before .put-counts .ensures .ends, c .before .before .before .before .before .before .before .before .before .before .before .put-counts .kept))
     (λ c. search needs)
-    (λ c. put-then (c .before .before .before .before .before .before .before .before .before .before .put-counts .ensures) (put-then (c .before .before .before .before .before .before .put-mean .ensures) (c .before .before .put-largest .ensures))))
+    (λ c. put-then (c .before .before .before .before .before .before .before .before .before .before .before .before .before .before .put-counts .ensures) (put-then (c .before .before .before .before .before .before .before .before .before .before .put-calls .ensures) (put-then (c .before .before .before .before .before .before .put-mean .ensures) (c .before .before .put-largest .ensures)))))
