@@ -9,11 +9,10 @@ use Rattle.number.proofs.Table.{length-tabulate, getD-tabulate}
 use Rattle.store.specs.Log.{places}
 use Rattle.schedule.proofs.Laws.{header-room, header-size, header-votes}
 use Rattle.rules.specs.Run.{callsMade}
-use Rattle.rules.proofs.Counts.{calls-counted}
 use Rattle.rules.proofs.Reached.{reached-in-range}
 use Rattle.rules.proofs.Room.{after-room}
 use Rattle.passes.specs.Pass.{freshOf}
-use Rattle.passes.proofs.Begun.{no-calls}
+use Rattle.passes.proofs.Begun.{run-counted}
 use Rattle.figures.specs.Types.{Header}
 use Rattle.figures.specs.Class.{Schedule, Class, readClass, ScheduleInRange}
 use Rattle.figures.specs.Sums.{sum, largest}
@@ -51,12 +50,7 @@ none-made : (s : Schedule) → ScheduleInRange s → (p : ℕ) → p ≤ places 
 none-made s q p small beyond =
     let h : Header = s .header in
     let ranged = reached-in-range places (h .n) (h .votes) (header-room h (q .0) .0) (header-size h (q .0) .1) (header-votes h (q .0)) (s .steps) (q .1) in
-    omega (
-      arith,
-      calls-counted (freshOf h) (s .steps) p (omega arith),
-      no-calls h p,
-      ranged .calls-beyond p (omega (arith, after-room (freshOf h) (s .steps) .same-n)),
-    )
+    sym (run-counted h (s .steps) p (omega arith)) ∙ ranged .calls-beyond p (omega (arith, after-room (freshOf h) (s .steps) .same-n))
 
 each-none : {ps : List (List ℕ)} {ss : List Schedule} → EachRuns ps ss → (p : ℕ) → p ≤ places → largest (map sitesOf ss) < p
     → sum (map (λ s. callsMade p (freshOf (s .header)) (s .steps)) ss) ≡ 0

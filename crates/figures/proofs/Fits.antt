@@ -15,7 +15,7 @@ use Rattle.figures.specs.Class.{Schedule, Class, readClass}
 use Rattle.figures.specs.Sums.{sum, larger, largest, firstPlace}
 use Rattle.figures.specs.Figures.{reports, reportsNeither, callsIn, columnOf, sitesOf, countOf, figuresOf}
 use Rattle.figures.specs.Promises.{EachRuns, no-more, and-then, MeanExact, FirstLargest, LargestFirst, FiguresFit, LargestSites}
-use Rattle.figures.proofs.Sums.{larger-cases, none-above, largest-sum, first-few, first-largest}
+use Rattle.figures.proofs.Sums.{larger-cases, largest-sum, each-le-sum, first-few, first-largest}
 use Rattle.figures.proofs.Single.{schedule-most, read-whole}
 use Rattle.figures.proofs.Kept.{single-reports, class-kept}
 use Rattle.figures.proofs.Column.{column-sum}
@@ -71,7 +71,7 @@ count-few test (s ∷ ss) = go (test s) (count-few test ss)
 
 -- an entry is no more than all of them
 pub entry-few : (ss : List Schedule) (p : ℕ) → getD (columnOf ss) p 0 ≤ sum (map callsIn ss)
-entry-few ss p = omega (arith, none-above (columnOf ss) p, largest-sum (columnOf ss), column-sum ss)
+entry-few ss p = omega (arith, each-le-sum (columnOf ss) p, column-sum ss)
 
 pub record Small (f : Figures) : Type 0 where
   pub schedules : f .totals .schedules ≤ longest

@@ -100,6 +100,10 @@ unfolding largest sum
 largest-sum [] = omega arith
 largest-sum (x ∷ l) = ⊎-elim (λ e. omega (arith, e .1, largest-sum l)) (λ e. omega (arith, e .1, largest-sum l)) (larger-cases x (largest l))
 
+-- no number is more than all of them
+pub each-le-sum : (l : List ℕ) (i : ℕ) → getD l i 0 ≤ sum l
+each-le-sum l i = omega (arith, none-above l i, largest-sum l)
+
 -- First places
 
 -- a number above all others is at the end

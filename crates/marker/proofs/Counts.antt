@@ -2,19 +2,17 @@
 use mathlib.Core.Path.{_≡_, sym, ap, _∙_}
 use mathlib.Core.Bool.{true}
 use mathlib.Core.List.{List}
-use Prim.Native.Nat.{ℕ, suc, _+_}
+use Prim.Native.Nat.{ℕ, suc}
 use native.Mathlib.Omega.{arith}
-use native.Mathlib.Nat.{zero-add}
 use lib.ListN.{getD}
 use Rattle.number.proofs.Table.{getD-tabulate}
 use Rattle.store.specs.Log.{places}
 use Rattle.kind.specs.Step.{AllInRange}
 use Rattle.schedule.specs.Record.{headerInRange}
-use Rattle.rules.specs.Run.{after, Countable, callsMade}
-use Rattle.rules.proofs.Counts.{calls-counted}
+use Rattle.rules.specs.Run.{after, Countable}
 use Rattle.tail.specs.Tail.{tailOf}
 use Rattle.passes.specs.Pass.{freshOf}
-use Rattle.passes.proofs.Begun.{no-calls}
+use Rattle.passes.proofs.Begun.{run-counted}
 use Rattle.form.specs.Form.{formOf, tailBytes, countAt}
 use Rattle.form.proofs.Kept.{tail-kept}
 use Rattle.marker.specs.Types.{Step, Header, Release, Tail}
@@ -26,9 +24,6 @@ module _ (h : Header) (steps : List Step) (q : headerInRange h ≡ true) (a : Al
   counts-hold p small =
       let r : Release = after (freshOf h) steps in
       let bytes : List ℕ = tailBytes (formOf (h .kind)) (tailOf r) in
-      let none = no-calls h p in
       sym (getD-tabulate (suc places) (countAt (formOf (h .kind)) bytes) p 0 (omega arith))
       ∙ ap (λ (t : Tail). getD (t .calls) p 0) (tail-kept (formOf (h .kind)) (tailOf r) (run-fits h steps q a few))
-      ∙ calls-counted (freshOf h) steps p (omega arith)
-      ∙ ap (λ k. k + callsMade p (freshOf h) steps) none
-      ∙ zero-add (callsMade p (freshOf h) steps)
+      ∙ run-counted h steps p (omega arith)

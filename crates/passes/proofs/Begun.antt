@@ -12,9 +12,9 @@ use Rattle.schedule.specs.Schedule.{readSchedule, stepsBytes}
 use Rattle.schedule.proofs.Records.{front-length}
 use Rattle.rules.specs.State.{types}
 use Rattle.rules.specs.Step.{step}
-use Rattle.rules.specs.Run.{after, countLimit}
+use Rattle.rules.specs.Run.{after, countLimit, callsMade}
 use Rattle.rules.proofs.Agreement.{replicate-all}
-use Rattle.rules.proofs.Counts.{calls-by-bytes}
+use Rattle.rules.proofs.Counts.{calls-counted, calls-by-bytes}
 use Rattle.rules.proofs.Room.{after-room}
 use Rattle.state.specs.Fields.{fields, HasPlaces, nIn, messageIn, siteIn, countIn, releaseIn}
 use Rattle.state.proofs.Parts.{count-in}
@@ -74,6 +74,10 @@ module _ {s : List ℕ} {start : ℕ} {c : Context} {count : ℕ} {l : List ℕ}
 module _ (h : Header) where
   pub no-calls : (p : ℕ) → getD (freshOf h .calls) p 0 ≡ 0
   no-calls p = replicate-all (λ k. k ≡ 0) (suc places) p 0 refl
+
+  -- so its counts are the calls that the rules count
+  pub run-counted : (steps : List Step) (p : ℕ) → p < suc places → getD (after (freshOf h) steps .calls) p 0 ≡ callsMade p (freshOf h) steps
+  run-counted steps p g = omega (arith, calls-counted (freshOf h) steps p (omega arith), no-calls p)
 
   -- the numbers of the fresh release represent it
   pub fresh-back : releaseIn (fields (freshOf h)) (freshOf h .store) ≡ freshOf h

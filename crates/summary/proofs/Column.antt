@@ -8,11 +8,7 @@ use lib.Seq.{sets}
 use Rattle.number.proofs.Table.{length-tabulate, getD-tabulate}
 use Rattle.text.specs.Put.{Put}
 use Rattle.text.proofs.Putting.{Putting, put-room, put-next, put-all}
-use Rattle.summary.specs.Summary.{partyText, parties, columnText}
-
--- of a party
-abbrev pub partyLine : List ℕ → ℕ → List ℕ
-partyLine column p = partyText p (getD column p 0)
+use Rattle.summary.specs.Summary.{partyLine, parties, columnText}
 
 pub parties-long : (sites : ℕ) → length (parties sites) ≡ suc sites
 parties-long sites = length-tabulate (suc sites) (λ q. q)

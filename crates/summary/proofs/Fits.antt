@@ -19,8 +19,8 @@ use Rattle.figures.specs.Figures.{figuresOf, classAnswer, classAnswers}
 use Rattle.figures.proofs.Fits.{Small, figures-small}
 use Rattle.figures.proofs.Refusals.{refusal-small}
 use Rattle.summary.specs.Types.{Figures, Answer}
-use Rattle.summary.specs.Summary.{numberText, lineText, partyText, parties, columnText, figuresText, classText, summary, answerText, longestSummary, SummaryFits}
-use Rattle.summary.proofs.Column.{partyLine, parties-long}
+use Rattle.summary.specs.Summary.{numberText, lineText, partyText, partyLine, parties, columnText, figuresText, classText, summary, answerText, longestSummary, SummaryFits}
+use Rattle.summary.proofs.Column.{parties-long}
 use Rattle.summary.proofs.Lengths.{number-long, line-long, counts-long, party-long, calls-long, mean-long, largest-long, figures-long}
 
 -- An answer, by its number

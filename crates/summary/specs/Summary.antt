@@ -33,11 +33,14 @@ countsText t =
 abbrev pub partyText : ℕ → ℕ → List ℕ
 partyText p k = numberText (ascii "party ") p ++ lineText (ascii " ") k
 
+abbrev pub partyLine : List ℕ → ℕ → List ℕ
+partyLine column p = partyText p (getD column p 0)
+
 abbrev pub parties : ℕ → List ℕ
 parties sites = tabulate (suc sites) (λ p. p)
 
 abbrev pub columnText : ℕ → List ℕ → List ℕ
-columnText sites column = each (λ p. partyText p (getD column p 0)) (parties sites)
+columnText sites column = each (partyLine column) (parties sites)
 
 abbrev pub callsText : Figures → List ℕ
 callsText f = lineText (ascii "calls ") (f .calls) ++ columnText (f .totals .sites) (f .column)

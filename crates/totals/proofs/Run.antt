@@ -13,17 +13,16 @@ use Rattle.schedule.specs.Record.{headerRecord, recordLength, longest}
 use Rattle.schedule.specs.Schedule.{readSchedule, stepsBytes, Accepted}
 use Rattle.schedule.proofs.Reading.{header-more, steps-few}
 use Rattle.rules.specs.Run.{after}
-use Rattle.rules.proofs.Counts.{calls-counted}
 use Rattle.state.specs.Fields.{fields, countsFrom, releaseIn}
 use Rattle.state.proofs.Parts.{counts-last}
 use Rattle.passes.specs.Pass.{validated, readingFrom, stepsOf, freshOf, stepBytes, Leaves}
 use Rattle.passes.proofs.Passed.{counted, passed, bytes-length}
-use Rattle.passes.proofs.Begun.{fresh-back, run-places, no-calls}
+use Rattle.passes.proofs.Begun.{fresh-back, run-places, run-counted}
 use Rattle.figures.specs.Class.{Schedule}
 use Rattle.figures.specs.Sums.{sum}
 use Rattle.figures.specs.Figures.{stepsReported, saidIn, reports, callsOf, callsIn as callsReported}
 use Rattle.figures.specs.Promises.{dueCalls}
-use Rattle.figures.proofs.Sums.{table-same, none-above, largest-sum}
+use Rattle.figures.proofs.Sums.{table-same, each-le-sum}
 use Rattle.figures.proofs.Single.{steps-are, calls-by-rules, read-whole, schedule-most}
 use Rattle.totals.specs.Types.{Store, Step, Context, Outcome, Release, Validated, Totals}
 use Rattle.totals.specs.Adding.{oneAdded, scheduleOf, scheduleAdded, callsAdded, Entries}
@@ -69,12 +68,7 @@ module _ (part : List ℕ) (c : Context) (m : ℕ) (v : validated (readSchedule 
         let x = read-whole part s accepted in
         let long = run-places (c .header) (s .steps) .calls in
         let same : (p : ℕ) → p < suc places → callsOf s p ≡ getD (end .calls) p 0 = λ p g.
-        omega (
-          arith,
-          calls-counted (freshOf (c .header)) (s .steps) p (omega arith),
-          no-calls (c .header) p,
-          calls-by-rules .party s (x .header, x .ranged) (omega (arith, x .long, x .short)) p (omega arith),
-        ) in
+        calls-by-rules .party s (x .header, x .ranged) (omega (arith, x .long, x .short)) p (omega arith) ∙ sym (run-counted (c .header) (s .steps) p g) in
         ap (take (suc places)) counts-left ∙ take-all (suc places) (end .calls) (omega (arith, long)) ∙ sym (tabulate-list (suc places) (callsOf s) (end .calls) 0 long same)
 
     pub run-sum : sum calls ≡ callsReported (scheduleOf c part)
@@ -84,7 +78,7 @@ module _ (part : List ℕ) (c : Context) (m : ℕ) (v : validated (readSchedule 
     run-entries =
         record {
           parties = ap length calls-are ∙ length-tabulate (suc places) (callsOf s);
-          few = λ p. omega (arith, none-above calls p, largest-sum calls, run-sum, calls-few);
+          few = λ p. omega (arith, each-le-sum calls p, run-sum, calls-few);
         }
 
     pub run-added : (column : List ℕ) → callsAdded column (λ p. getD calls p 0) ≡ callsAdded column (callsOf (scheduleOf c part))
@@ -134,5 +128,5 @@ module _ (part : List ℕ) (c : Context) (m : ℕ) (v : validated (readSchedule 
   pub none-counted : (column : List ℕ) → length column ≡ suc places → m ≡ 0 → column ≡ callsAdded column (callsOf (scheduleOf c part))
   none-counted column long e =
       let each : (p : ℕ) → p < suc places → callsOf s p ≡ 0 = λ p g.
-      omega (arith, none-called e, getD-tabulate (suc places) (callsOf s) p 0 g, none-above (tabulate (suc places) (callsOf s)) p, largest-sum (tabulate (suc places) (callsOf s))) in
+      omega (arith, none-called e, getD-tabulate (suc places) (callsOf s) p 0 g, each-le-sum (tabulate (suc places) (callsOf s)) p) in
       sym (tabulate-list (suc places) (λ p. getD column p 0 + callsOf s p) column 0 long (λ p g. omega (arith, each p g)))

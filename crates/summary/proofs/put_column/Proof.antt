@@ -3,8 +3,8 @@ use Prim.Native.Nat.{suc, _-_, _≤_}
 use native.Mathlib.Omega.{arith}
 use borrow.Author.Needs.{needs}
 use Rattle.text.proofs.Putting.{Putting, put-none}
-use Rattle.summary.specs.Summary.{parties}
-use Rattle.summary.proofs.Column.{partyLine, party-room, party-next, party-all}
+use Rattle.summary.specs.Summary.{partyLine, parties}
+use Rattle.summary.proofs.Column.{party-room, party-next, party-all}
 use Rattle.summary.proofs.put_column.Statement.{statement}
 use Rattle.summary.proofs.put_column.Tie as tie
 
