@@ -148,7 +148,7 @@ first-of (x ∷ file) h = first-part x file
 some-bytes : (s : Schedule) (rest : List ℕ) → 0 < length (bytesOf s ++ rest)
 some-bytes s rest = omega (arith, length-append (bytesOf s) rest, front-length (headerRecord (s .header)) (stepsBytes (s .steps)))
 
-parts-bytes : (ss : List Schedule) → AllSchedulesInRange ss → parts (classBytes ss) ≡ map bytesOf ss
+pub parts-bytes : (ss : List Schedule) → AllSchedulesInRange ss → parts (classBytes ss) ≡ map bytesOf ss
 unfolding partsUpTo flatten
 parts-bytes [] q = refl
 parts-bytes (s ∷ ss) q =

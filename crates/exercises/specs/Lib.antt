@@ -1,0 +1,4 @@
+pub mod Types
+pub mod Sheet
+pub mod Promises
+pub mod Cases
