@@ -68,7 +68,7 @@ module _ (n : ℕ) where
 
   -- And every candidate is in range
 
-  abbrev Ranged : Step → Type 0
+  abbrev pub Ranged : Step → Type 0
   Ranged s = inRange n s ≡ true
 
   numbered : (p : ℕ) → 1 ≤ p → p ≤ n → leb 1 p && leb p n ≡ true
@@ -90,7 +90,7 @@ module _ (n : ℕ) where
   called : (p q : ℕ) → p ≤ n → 1 ≤ q → q ≤ n → leb p n && (leb 1 q && leb q n) ≡ true
   called p q a b c = and-true (leb p n) _ (le-leb p n a) (numbered q b c)
 
-  candidates-ranged : All Ranged (candidates n)
+  pub candidates-ranged : All Ranged (candidates n)
   candidates-ranged =
       all-flatten Ranged (kinds n) (
         (refl, tt),

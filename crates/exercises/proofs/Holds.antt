@@ -36,7 +36,7 @@ bounds n votes k q =
 
 -- a step has at most three bytes
 
-step-short : (s : Step) → length (recordBytes (stepRecord s)) ≤ 3
+pub step-short : (s : Step) → length (recordBytes (stepRecord s)) ≤ 3
 step-short Step.Start = lit≤ tt
 step-short (Step.Deliver m p) = lit≤ tt
 step-short (Step.Copy m p) = lit≤ tt

@@ -31,7 +31,7 @@ fn writable(place: usize, r: Record) -> bool
 }
 
 // The kind's byte, and each number of the body by the bytes that it has there.
-fn put(buffer: &mut [u8], place: usize, r: Record)
+pub fn put(buffer: &mut [u8], place: usize, r: Record)
     requires { ⌜ place + recordLength r ≤ length (now buffer) ⌝ }
     ensures { λ _. ⌜ now (buffer .exit) ≡ sets (now (buffer .entry)) place (recordBytes r) ⌝ }
 {

@@ -1,0 +1,185 @@
+// The code of a sheet: all schedules of a few steps, each due when its turn comes, in ascending order of their bytes.
+use effect::outcome::moves;
+use exercises::LONGEST_SHEET;
+use exercises::MOST_SITES;
+use exercises::MOST_STEPS;
+use kind::Kind;
+use number::OUT_OF_RANGE;
+use release::step;
+use schedule::Context;
+use schedule::Header;
+use schedule::Record;
+use schedule::reader::length_at;
+use schedule::reader::step_at;
+use state::FIELDS;
+use state::fresh;
+use store::Store;
+use text::put;
+use writer::Written;
+use writer::write_text;
+ghost use mathlib.Core.Path.{_≡_};
+ghost use Prim.Native.Nat.{_+_, _≤_};
+ghost use lib.ListN.{length};
+ghost use Rattle.text.specs.Put.{Put, each};
+ghost use Rattle.writer.specs.Writer.{writtenHands};
+ghost use Rattle.exercises.specs.Sheet.{mostSites, sheetBytes, sheetAnswers, sheetHands, sheetLeaves};
+ghost use Rattle.sheet.specs.Level.{recordFor, choices, choiceBytes, longestSteps, longestExercise, Extends, Begins, inBoundsWith, Bounds, levelBytes, Reached};
+
+// The longest schedule of a sheet: its header and three steps, of three bytes each.
+const LONGEST_EXERCISE: usize = 12;
+
+// The most bytes that the records of all steps for two sites have.
+const LONGEST_STEPS: usize = 145;
+
+// Kinds 2 to 10 with first numbers 0 to 5 and second numbers 0 to 2 are so many choices. In this order they ascend.
+const CHOICES: u32 = 162;
+
+fn choice(c: u32) -> Record
+    ensures { λ r. ⌜ r ≡ recordFor c ⌝ }
+{
+    Record {
+        kind: Kind::of(c / 18 + 2),
+        first: c / 3 % 6,
+        second: c % 3,
+    }
+}
+
+// Puts the records of all steps that the reader yields under n, in ascending order of their bytes.
+fn put_steps(out: &mut [u8], n: u32) -> usize
+    requires { ⌜ (n ≤ mostSites) × (longestSteps ≤ length (now out)) ⌝ }
+    ensures { λ end. ⌜ Put (now (out .entry)) 0 (each (choiceBytes n) choices) end (now (out .exit)) ⌝ }
+{
+    let mut at: usize = 0;
+    let mut c: u32 = 0;
+    while c < CHOICES {
+        let r = choice(c);
+        if r.in_range(n) {
+            writer::put(out, at, r);
+            at = at + r.length();
+        }
+        c = c + 1;
+    }
+    at
+}
+
+// A schedule so far: its bytes, and the release that its steps lead to, as numbers beside the store.
+pub struct Exercise {
+    pub bytes: [u8; LONGEST_EXERCISE],
+    pub len: usize,
+    pub numbers: [u32; FIELDS],
+    pub store: Store,
+}
+
+impl Exercise {
+    // The schedule with one step more, which leads to another release.
+    fn with_step(self, added: &[u8], numbers: [u32; FIELDS], store: Store) -> Exercise
+        requires { ⌜ (length (self .bytes) ≡ longestExercise) × (self .len + length (now added) ≤ longestExercise) ⌝ }
+        ensures { λ e. ⌜ Extends self (now (added .entry)) numbers store e ⌝ }
+    {
+        let mut bytes = self.bytes;
+        let len = put(&mut bytes, self.len, added);
+        Exercise {
+            bytes: bytes,
+            len: len,
+            numbers: numbers,
+            store: store,
+        }
+    }
+}
+
+// Puts each schedule that begins with this one and goes on with `left` due steps: after each step that is due, those with one step fewer. A step that is
+// not due leaves the numbers as they were.
+fn list(out: &mut [u8], at: usize, e: Exercise, steps: &[u8], context: Context, left: u32) -> usize
+    requires { ⌜ Reached e (now steps) context left × (at + length (levelBytes context e left) ≤ length (now out)) ⌝ }
+    ensures { λ end. ⌜ Put (now (out .entry)) at (levelBytes context e left) end (now (out .exit)) ⌝ }
+{
+    if left == 0 {
+        let bytes = e.bytes;
+        return put(out, at, &bytes[..e.len]);
+    }
+    let mut numbers = e.numbers;
+    let mut place = at;
+    let mut c: usize = 0;
+    while c < steps.len() {
+        let s = step_at(&steps[c..]);
+        let size = length_at(&steps[c..]);
+        let stepped = step(&mut numbers, e.store, context.all, s);
+        let outcome = stepped.outcome;
+        if moves(outcome) {
+            let next = e.with_step(&steps[c..c + size], numbers, stepped.store);
+            place = list(out, place, next, steps, context, left - 1);
+            numbers = e.numbers;
+        }
+        c = c + size;
+    }
+    place
+}
+
+// Whether there is such a sheet.
+fn in_bounds(context: Context, k: u32) -> bool
+    ensures { λ b. ⌜ b ≡ inBoundsWith context k ⌝ }
+{
+    let n = context.header.n;
+    if context.in_range() {
+        if n <= MOST_SITES {
+            k <= MOST_STEPS
+        } else {
+            false
+        }
+    } else {
+        false
+    }
+}
+
+// A schedule without a step: its header, and the fresh release.
+fn begin(header: Header) -> Exercise
+    ensures { λ e. ⌜ Begins header e ⌝ }
+{
+    let mut bytes = [0u8; LONGEST_EXERCISE];
+    let kind = header.kind;
+    let r = Record {
+        kind: kind,
+        first: header.n,
+        second: header.votes,
+    };
+    writer::put(&mut bytes, 0, r);
+    let numbers = fresh(header.n, header.votes);
+    Exercise {
+        bytes: bytes,
+        len: r.length(),
+        numbers: numbers,
+        store: Store::empty(),
+    }
+}
+
+// Puts the sheet under a header.
+fn put_sheet(out: &mut [u8], context: Context, k: u32) -> usize
+    requires { ⌜ Bounds context k × (length (sheetBytes (context .header) k) ≤ length (now out)) ⌝ }
+    ensures { λ end. ⌜ Put (now (out .entry)) 0 (sheetBytes (context .header) k) end (now (out .exit)) ⌝ }
+{
+    let header = context.header;
+    let mut steps = [0u8; LONGEST_STEPS];
+    let end = put_steps(&mut steps, header.n);
+    let e = begin(header);
+    list(out, 0, e, &steps[..end], context, k)
+}
+
+// Writes the sheet of all schedules under header 01 with n and these votes and k due steps. Answers its length; a sheet that is not there and a buffer
+// that is too short leave the buffer as it was.
+pub fn write_sheet(n: u32, votes: u32, k: u32, out: &mut [u8]) -> Written
+    ensures { λ x. ⌜ (x ≡ sheetAnswers (length (now (out .entry))) n votes k)
+        × (writtenHands x ≡ sheetHands (length (now (out .entry))) n votes k)
+        × (now (out .exit) ≡ sheetLeaves (now (out .entry)) n votes k) ⌝ }
+{
+    let context = Header {
+        kind: Kind::Header,
+        n: n,
+        votes: votes,
+    }.context();
+    if in_bounds(context, k) {
+        let mut sheet = [0u8; LONGEST_SHEET];
+        let end = put_sheet(&mut sheet, context, k);
+        return write_text(out, &sheet[..end]);
+    }
+    Written::Refused(OUT_OF_RANGE, 0)
+}
