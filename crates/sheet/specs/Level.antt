@@ -86,7 +86,7 @@ pub record Begins (h : Header) (e : Exercise) : Type 0 where
 abbrev pub inBoundsWith : Context → ℕ → Bool
 inBoundsWith c k = contextInRange c && (leb (c .header .n) mostSites && leb k mostSteps)
 
-pub record Bounds (c : Context) (k : ℕ) : Type 0 where
+pub record InBounds (c : Context) (k : ℕ) : Type 0 where
   pub kind : c .header .kind ≡ Kind.Header
   pub context : c ≡ contextOf (c .header)
   pub within : inBounds (c .header .n) (c .header .votes) k ≡ true

@@ -23,7 +23,7 @@ ghost use lib.ListN.{length};
 ghost use Rattle.text.specs.Put.{Put, each};
 ghost use Rattle.writer.specs.Writer.{writtenHands};
 ghost use Rattle.exercises.specs.Sheet.{mostSites, sheetBytes, sheetAnswers, sheetHands, sheetLeaves};
-ghost use Rattle.sheet.specs.Level.{recordFor, choices, choiceBytes, longestSteps, longestExercise, Extends, Begins, inBoundsWith, Bounds, levelBytes, Reached};
+ghost use Rattle.sheet.specs.Level.{recordFor, choices, choiceBytes, longestSteps, longestExercise, Extends, Begins, inBoundsWith, InBounds, levelBytes, Reached};
 
 // The longest schedule of a sheet: its header and three steps, of three bytes each.
 const LONGEST_EXERCISE: usize = 12;
@@ -154,7 +154,7 @@ fn begin(header: Header) -> Exercise
 
 // Puts the sheet under a header.
 fn put_sheet(out: &mut [u8], context: Context, k: u32) -> usize
-    requires { ⌜ Bounds context k × (length (sheetBytes (context .header) k) ≤ length (now out)) ⌝ }
+    requires { ⌜ InBounds context k × (length (sheetBytes (context .header) k) ≤ length (now out)) ⌝ }
     ensures { λ end. ⌜ Put (now (out .entry)) 0 (sheetBytes (context .header) k) end (now (out .exit)) ⌝ }
 {
     let header = context.header;
