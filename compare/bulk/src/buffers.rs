@@ -5,8 +5,8 @@ use crate::difference::{schedule_words, Difference};
 use crate::figures::Numbers;
 use crate::jobs;
 use crate::lending::Entry;
+use crate::printed;
 use crate::random::Random;
-use crate::reduce;
 use crate::replay::Programs;
 use crate::rests::{any_rest, any_tail};
 use crate::schedules::{
@@ -146,16 +146,11 @@ fn rest_of_any_length(random: &mut Random, tail: &Tail, at: usize) -> Vec<u8> {
 }
 
 fn compare_mark(programs: &Programs, schedule: &[u8]) -> Result<(), Difference> {
-    let differs = |bytes: &[u8]| programs.mark(bytes).text != second::listing(bytes).as_bytes();
-    if !differs(schedule) {
-        return Ok(());
-    }
-    let smallest = reduce::schedule(schedule, differs);
-    let printed = programs.mark(&smallest);
-    let text = String::from_utf8_lossy(&printed.text);
-    Err(Difference {
-        input: format!("mark, schedule of {}", schedule_words(&smallest)),
-        proved: format!("{text}({})", printed.status),
-        second: second::listing(&smallest),
-    })
+    let words = |schedule: &[u8]| format!("mark, schedule of {}", schedule_words(schedule));
+    printed::compare(
+        schedule,
+        |bytes| programs.mark(bytes),
+        second::listing,
+        words,
+    )
 }

@@ -1,10 +1,10 @@
 //! Compares the figures of class files, and counts what the files amount to.
 
-use crate::class_files::header_places;
+use crate::class_files::{header_places, schedules_at};
 use crate::difference::{schedule_words, Difference};
 use crate::figures::Numbers;
 use crate::lending::Entry;
-use crate::reduce;
+use crate::printed;
 use crate::replay::Programs;
 use crate::states::TAIL;
 use second::{Form, Tail};
@@ -68,19 +68,8 @@ impl ClassFigures {
     /// Compares with what the program `class` prints.
     pub fn agreed_printed(&mut self, programs: &Programs, file: &[u8]) -> Result<(), Difference> {
         self.printed += 1;
-        let differs =
-            |file: &[u8]| programs.class(file).text != second::class_text(file).as_bytes();
-        if !differs(file) {
-            return Ok(());
-        }
-        let smallest = reduce::schedule(file, differs);
-        let printed = programs.class(&smallest);
-        let text = String::from_utf8_lossy(&printed.text);
-        Err(Difference {
-            input: format!("class, file of {}", schedule_words(&smallest)),
-            proved: format!("{text}({})", printed.status),
-            second: second::class_text(&smallest),
-        })
+        let words = |file: &[u8]| format!("class, file of {}", schedule_words(file));
+        printed::compare(file, |file| programs.class(file), second::class_text, words)
     }
 
     fn note_accepted(&mut self, file: &[u8], figures: &second::ClassFigures) {
@@ -151,9 +140,8 @@ fn calls_of_each(file: &[u8], places: &[usize]) -> Vec<u32> {
         let counts = Tail::from_bytes(form, tail).calls;
         counts.into_iter().map(u32::from).sum()
     };
-    let bounds = [places, &[file.len()]].concat();
-    let schedules = bounds.windows(2).map(|ends| &file[ends[0]..ends[1]]);
-    schedules.map(&mut calls).collect()
+    let schedules = schedules_at(file, places);
+    schedules.into_iter().map(&mut calls).collect()
 }
 
 impl fmt::Display for ClassFigures {

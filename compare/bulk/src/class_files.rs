@@ -108,6 +108,13 @@ pub fn header_places(file: &[u8]) -> Vec<usize> {
     places
 }
 
+/// The schedules of an accepted file, of which these are the places of the headers.
+pub fn schedules_at<'a>(file: &'a [u8], places: &[usize]) -> Vec<&'a [u8]> {
+    let bounds = [places, &[file.len()]].concat();
+    let schedules = bounds.windows(2).map(|ends| &file[ends[0]..ends[1]]);
+    schedules.collect()
+}
+
 /// Gives one of the headers an n out of range or a vote beyond n. Of the greatest n, no vote is
 /// beyond.
 fn put_header_out_of_range(random: &mut Random, file: &mut [u8]) {

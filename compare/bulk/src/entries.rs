@@ -199,7 +199,7 @@ fn headers() -> Vec<Vec<Option<Header>>> {
 }
 
 /// Every string, of any length, that has at each place one of the bytes given for that place.
-fn every_string(choices: &[&[u8]]) -> Vec<Vec<u8>> {
+pub fn every_string(choices: &[&[u8]]) -> Vec<Vec<u8>> {
     let mut strings = vec![Vec::new()];
     let mut start = 0;
     for choice in choices {

@@ -4,7 +4,7 @@
 use crate::difference::{hexadecimal, schedule_words, Difference};
 use crate::figures::ScheduleFigures;
 use crate::reduce;
-use crate::replay::{frames, Printed, Programs};
+use crate::replay::{frames, Programs};
 use second::Refusal;
 
 /// The greatest report: a step for each byte after a wide header, and the tail.
@@ -18,7 +18,7 @@ pub fn compare(programs: &Programs, batch: &[Vec<u8>]) -> Result<ScheduleFigures
     let reports = reports(batch);
     let expected = lines(&reports);
     let printed = programs.replay(&frames(batch));
-    if !agrees(&printed, &expected) {
+    if !printed.agrees(&expected) {
         return Err(reduced(programs, batch, &printed.text, &expected));
     }
     let mut figures = ScheduleFigures::default();
@@ -42,10 +42,6 @@ pub fn compare_incomplete(programs: &Programs, input: &[u8]) -> Result<(), Diffe
         proved: text_words(&printed.text),
         second: "incomplete frame".to_string(),
     })
-}
-
-fn agrees(printed: &Printed, expected: &[u8]) -> bool {
-    printed.status.success() && printed.text == expected
 }
 
 /// What the second program's `run` gives for each schedule.
@@ -83,7 +79,8 @@ fn push_hexadecimal(text: &mut Vec<u8>, bytes: &[u8]) {
 }
 
 fn differs(programs: &Programs, batch: &[Vec<u8>]) -> bool {
-    !agrees(&programs.replay(&frames(batch)), &lines(&reports(batch)))
+    let printed = programs.replay(&frames(batch));
+    !printed.agrees(&lines(&reports(batch)))
 }
 
 /// Mostly a single schedule is enough; where it takes several frames to make a difference, the

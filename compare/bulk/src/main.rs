@@ -20,6 +20,7 @@ mod jobs;
 mod lending;
 mod lent;
 mod lines;
+mod printed;
 #[allow(unsafe_code)]
 mod proved;
 mod random;
@@ -27,6 +28,8 @@ mod reduce;
 mod replay;
 mod rests;
 mod schedules;
+mod sheet_schedules;
+mod sheets;
 mod states;
 mod steps;
 mod tail_figures;
@@ -128,8 +131,11 @@ fn compare(cases: usize, seed: u64) -> Compared {
     let wide = compare_wide(cases / 3, seed)?;
     let moves = compare_moves(cases, seed)?;
     let classes = compare_classes(cases, seed)?;
-    let schedules = narrow.0 + wide.0 + moves.0 + classes.0;
-    Ok((schedules, narrow.1 + wide.1 + moves.1 + classes.1))
+    let sheets = compare_sheets(cases, seed)?;
+    let parts = [narrow, wide, moves, classes, sheets];
+    let schedules = parts.iter().map(|(schedules, _)| schedules);
+    let calls = parts.iter().map(|(_, calls)| calls);
+    Ok((schedules.sum(), calls.sum()))
 }
 
 /// The groups of narrow schedules, and of the entries that know no header.
@@ -198,6 +204,19 @@ fn compare_classes(cases: usize, seed: u64) -> Compared {
     let every = shown("35, every short class file", classes::every())?;
     let files = [&random, &damaged, &limits, &texts, &every].map(|figures| figures.calls());
     Ok((0, files.iter().sum()))
+}
+
+/// The groups of sheets.
+fn compare_sheets(cases: usize, seed: u64) -> Compared {
+    let bounds = sheets::about_the_bounds();
+    let bounds = shown("41, sheets in and about the bounds", bounds)?;
+    let buffers = shown("42, sheets into lent buffers", sheets::buffers())?;
+    let random = shown("43, random sheets", sheets::random(seed, cases / 100))?;
+    let schedules = sheet_schedules::compare(&Programs::find());
+    let schedules = shown("44, what stands on a sheet", schedules)?;
+    let calls = [&bounds, &buffers, &random].map(|figures| figures.calls());
+    let calls = calls.iter().sum::<u64>() + schedules.calls();
+    Ok((schedules.schedules(), calls))
 }
 
 /// Prints the group's figures, or names the group that has the difference.

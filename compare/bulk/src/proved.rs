@@ -36,6 +36,7 @@ extern "C" {
         text_len: usize,
     ) -> u64;
     fn compare_class(file: *const u8, file_len: usize, text: *mut u8, text_len: usize) -> u64;
+    fn compare_sheet(n: u32, votes: u32, k: u32, out: *mut u8, out_len: usize) -> u64;
     fn compare_write(
         buffer: *mut u8,
         buffer_len: usize,
@@ -104,6 +105,10 @@ pub fn list_from(tail: &[u8], steps: &[u8], text: &mut [u8]) -> u64 {
 
 pub fn class(file: &[u8], text: &mut [u8]) -> u64 {
     unsafe { compare_class(file.as_ptr(), file.len(), text.as_mut_ptr(), text.len()) }
+}
+
+pub fn sheet(n: u32, votes: u32, k: u32, out: &mut [u8]) -> u64 {
+    unsafe { compare_sheet(n, votes, k, out.as_mut_ptr(), out.len()) }
 }
 
 /// The three numbers are the kind and the body's two numbers.

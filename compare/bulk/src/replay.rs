@@ -1,5 +1,6 @@
-//! The programs `replay`, `mark` and `class`: what they print for an input. `replay` gets its frames
-//! from a thread while its lines are read, since it may print before it has read everything.
+//! The programs `replay`, `mark`, `class` and `print_sheet`: what they print for an input. `replay`
+//! gets its frames from a thread while its lines are read, since it may print before it has read
+//! everything.
 
 use std::env;
 use std::io::{self, Read, Write};
@@ -11,6 +12,7 @@ pub struct Programs {
     replay: PathBuf,
     mark: PathBuf,
     class: PathBuf,
+    print_sheet: PathBuf,
 }
 
 /// What a program printed, and how it ended.
@@ -19,15 +21,23 @@ pub struct Printed {
     pub status: ExitStatus,
 }
 
+impl Printed {
+    /// Whether the program printed just this and did not fail.
+    pub fn agrees(&self, expected: &[u8]) -> bool {
+        self.status.success() && self.text == expected
+    }
+}
+
 impl Programs {
-    /// The programs of the repository; `mark` stands beside `replay`, and so does `class` unless it
-    /// is named.
+    /// The programs of the repository; `mark` and `print_sheet` stand beside `replay`, and so does
+    /// `class` unless it is named.
     pub fn find() -> Programs {
         let replay = match env::var_os("KOKUMSPAR_REPLAY") {
             Some(path) => PathBuf::from(path),
             None => Path::new(env!("CARGO_MANIFEST_DIR")).join("../../target/bin/replay"),
         };
         let mark = replay.with_file_name("mark");
+        let print_sheet = replay.with_file_name("print_sheet");
         let class = match env::var_os("KOKUMSPAR_CLASS") {
             Some(path) => PathBuf::from(path),
             None => replay.with_file_name("class"),
@@ -36,6 +46,7 @@ impl Programs {
             replay,
             mark,
             class,
+            print_sheet,
         }
     }
 
@@ -49,6 +60,10 @@ impl Programs {
 
     pub fn class(&self, file: &[u8]) -> Printed {
         printed(&self.class, file)
+    }
+
+    pub fn print_sheet(&self, input: &[u8]) -> Printed {
+        printed(&self.print_sheet, input)
     }
 }
 

@@ -42,8 +42,8 @@ impl TailFigures {
 
     fn numbers(&mut self, entry: Entry) -> &mut Numbers {
         match entry {
-            // Class files come with no tail, and have figures of their own.
-            Entry::Run(_) | Entry::Listing(_) | Entry::Class(_) => &mut self.run,
+            // Class files and sheets come with no tail, and have figures of their own.
+            Entry::Run(_) | Entry::Listing(_) | Entry::Class(_) | Entry::Sheet(_) => &mut self.run,
             Entry::Move(_) => &mut self.moves,
             Entry::RunFrom(..) => &mut self.run_from,
             Entry::ListingFrom(..) => &mut self.listing_from,

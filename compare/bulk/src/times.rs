@@ -1,8 +1,8 @@
-//! The times of the entries that no program runs in a loop: moves, runs from a tail, and figures of
-//! class files. Both sides take turns at the same calls, and the ratio of their median times is
-//! printed. The proved side is the archive `export`, which no compiler has put together with its
-//! caller, as it does in a program; so runs of whole schedules are timed in the same way, to be
-//! compared with.
+//! The times of the entries that no program runs in a loop: moves, runs from a tail, figures of
+//! class files, and sheets. Both sides take turns at the same calls, and the ratio of their median
+//! times is printed. The proved side is the archive `export`, which no compiler has put together
+//! with its caller, as it does in a program; so runs of whole schedules are timed in the same way,
+//! to be compared with.
 
 use crate::class_files::{
     longest_of_headers, longest_of_one_schedule, longest_of_short_schedules, FORMS,
@@ -11,13 +11,15 @@ use crate::lent::packed;
 use crate::proved;
 use crate::random::Random;
 use crate::schedules::{random_schedule, rest_of_length, schedule_of_length, steps_from, LIMIT};
+use crate::sheets::asked_by;
 use crate::states::{reached, TAIL};
 use second::Form;
 use std::time::Instant;
 
 const SEED: u64 = 20_260_101;
 
-/// A tail and the steps that go on from it; or no tail, and a schedule or a class file.
+/// A tail and the steps that go on from it; or no tail, and a schedule, a class file, or what asks
+/// for a sheet.
 type Start = (Vec<u8>, Vec<u8>);
 
 /// An entry on one side, with its input and the lent buffer.
@@ -39,6 +41,10 @@ pub fn print(rounds: usize) {
     let name = "a thousand runs of 32,768 bytes from a tail";
     job(name, &longest, rounds, RUN_FROM);
     print_classes(&mut random, rounds);
+    let short = inputs(1_000, || any_sheet(&mut random, 1, 1));
+    job("a million sheets of n = 1, k = 1", &short, rounds, SHEET);
+    let longest = inputs(100, || any_sheet(&mut random, 2, 3));
+    job("a thousand sheets of n = 2, k = 3", &longest, rounds, SHEET);
 }
 
 /// Class files about the greatest length, a thousand calls each.
@@ -92,6 +98,12 @@ fn longest_rest(random: &mut Random) -> Start {
     (tail.wide_bytes().to_vec(), rest)
 }
 
+/// A sheet with any votes.
+fn any_sheet(random: &mut Random, n: u8, k: u8) -> Start {
+    let votes = random.below(1 << n) as u8;
+    (Vec::new(), vec![n, votes, k])
+}
+
 const RUN: [Side; 2] = [
     |(_, schedule), lent| proved::run(schedule, lent),
     |(_, schedule), lent| packed(second::run(schedule, lent)),
@@ -110,6 +122,17 @@ const RUN_FROM: [Side; 2] = [
 const CLASS: [Side; 2] = [
     |(_, file), lent| proved::class(file, lent),
     |(_, file), lent| packed(second::put_class_text(file, lent)),
+];
+
+const SHEET: [Side; 2] = [
+    |(_, input), lent| {
+        let [n, votes, k] = asked_by(input);
+        proved::sheet(n, votes, k, lent)
+    },
+    |(_, input), lent| {
+        let [n, votes, k] = asked_by(input);
+        packed(second::write_sheet(n, votes, k, lent))
+    },
 ];
 
 /// Prints the median times of both sides and their ratio. A thousand inputs are each called a thousand

@@ -75,7 +75,8 @@ pub fn every(programs: &Programs, form: Form) -> Result<ScheduleFigures, Differe
     Ok(sum(&done))
 }
 
-fn every_schedule(header: Header, steps: u32) -> Vec<Vec<u8>> {
+/// Every schedule of this many steps, due or not.
+pub fn every_schedule(header: Header, steps: u32) -> Vec<Vec<u8>> {
     let choices = every_step(header.n);
     let mut schedules = vec![header_bytes(header)];
     for _ in 0..steps {

@@ -3,11 +3,10 @@
 mod common;
 
 use common::{
-    bytes, bytes_of, header_bytes, headers, refusal, report, steps_from, wide_headers, Numbers,
+    bytes, bytes_of, header_bytes, headers, output, refusal, report, steps_from, wide_headers,
+    Numbers,
 };
 use second::{class_figures, class_text, put_class_text, ClassFigures, Refusal, Tail};
-use std::io::Write;
-use std::process::{Command, Output, Stdio};
 
 /// An abort, reported twice, and 4 calls.
 const P1: &str = "01 02 03 02 03 01 01 06 01 01 08 01 06 01 02 06 01 01 03 01 02 06 02 02";
@@ -602,22 +601,6 @@ fn lines_of_every_n() {
     }
 }
 
-/// How program `second` ends with these words and this input.
-fn output(words: &[&str], input: &[u8]) -> Output {
-    let mut program = Command::new(env!("CARGO_BIN_EXE_second"))
-        .args(words)
-        .stdin(Stdio::piped())
-        .stdout(Stdio::piped())
-        .stderr(Stdio::piped())
-        .spawn()
-        .expect("program starts");
-    let mut stdin = program.stdin.take().expect("standard input");
-    // One that prints its usage does not read.
-    let _ = stdin.write_all(input);
-    drop(stdin);
-    program.wait_with_output().expect("program ends")
-}
-
 #[test]
 fn program_with_the_word_class() {
     let files = [
@@ -637,10 +620,18 @@ fn program_with_the_word_class() {
 
 #[test]
 fn program_with_other_words() {
-    for words in [&["classes"][..], &["class", "class"], &[""]] {
+    for words in [
+        &["classes"][..],
+        &["class", "class"],
+        &["class", "sheet"],
+        &[""],
+    ] {
         let output = output(words, &bytes(P1));
         assert_eq!(output.status.code(), Some(2));
         assert_eq!(output.stdout, b"");
-        assert_eq!(output.stderr, b"usage: second | second class\n");
+        assert_eq!(
+            output.stderr,
+            b"usage: second | second class | second sheet\n"
+        );
     }
 }

@@ -12,6 +12,7 @@ use schedule::Header;
 use schedule::reader::Before;
 use schedule::reader::Read;
 use schedule::reader::read_record;
+use sheet::write_sheet;
 use store::EntryAnswer;
 use store::LogPair;
 use store::LogRecord;
@@ -28,6 +29,7 @@ ghost use Rattle.writer.specs.Writer.{writtenHands, writerHands, writerLeaves};
 ghost use Rattle.marker.specs.Run.{runHands, runLeaves};
 ghost use Rattle.listing.specs.Listing.{listHands, listLeaves};
 ghost use Rattle.summary.specs.Summary.{summaryHands, summaryLeaves};
+ghost use Rattle.exercises.specs.Sheet.{sheetHands, sheetLeaves};
 ghost use Rattle.export.specs.Packed.{packed, fourBytes, sevenBytes, readPacked, answerPacked, entryPacked, beforeOf, pairOf};
 
 // A refusal's number or 0 in the upper 32 bits, what is handed over with it in the lower ones.
@@ -157,6 +159,14 @@ pub extern "C" fn compare_class(file: &[u8], text: &mut [u8]) -> u64
         × (now (text .exit) ≡ summaryLeaves (now (text .entry)) (now (file .entry))) ⌝ }
 {
     pack_written(summarize(file, text))
+}
+
+#[no_mangle]
+pub extern "C" fn compare_sheet(n: u32, votes: u32, k: u32, out: &mut [u8]) -> u64
+    ensures { λ x. ⌜ (x ≡ packed (sheetHands (length (now (out .entry))) n votes k))
+        × (now (out .exit) ≡ sheetLeaves (now (out .entry)) n votes k) ⌝ }
+{
+    pack_written(write_sheet(n, votes, k, out))
 }
 
 #[no_mangle]

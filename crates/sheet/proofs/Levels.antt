@@ -37,8 +37,8 @@ use Rattle.exercises.specs.Sheet.{candidates, ifDue, dueLists}
 use Rattle.exercises.proofs.Lists.{all-at, gather-gather, map-map, map-same}
 use Rattle.exercises.proofs.Candidates.{Ranged, candidates-ranged}
 use Rattle.exercises.proofs.Holds.{step-short}
-use Rattle.sheet.specs.Types.{Step, Header, Context, Before, Store, Release, Outcome, Report, Exercise}
-use Rattle.sheet.specs.Level.{longestExercise, textOf, reached, Extends, goingOn, levelBytes, Reached}
+use Rattle.sheet.specs.Types.{Step, Header, Context, Before, Store, Release, Outcome, Report, Prefix}
+use Rattle.sheet.specs.Level.{longestExercise, textOf, Extends, goingOn, levelBytes, Reached}
 
 -- What a level goes on to
 
@@ -88,34 +88,34 @@ first-is h g s q rest =
 
 -- What holds while the steps are tried: `p` is the place of the next one's record, and `index` its own. The numbers are those that the level started from
 
-module _ (e : Exercise) (steps : List ℕ) (c : Context) (left : ℕ) where
+module _ (e : Prefix) (l : List ℕ) (store : Store) (steps : List ℕ) (c : Context) (left : ℕ) where
   abbrev pub goes : Step → List ℕ
-  goes = branch (candidates (c .header .n)) (left - 1) (reached e) (textOf e)
+  goes = branch (candidates (c .header .n)) (left - 1) (releaseIn l store) (textOf e)
 
   pub record Trying (out₀ : List ℕ) (at : ℕ) (out numbers : List ℕ) (place p : ℕ) : Type 0 where
     pub index : ℕ
     pub within : p ≤ length steps
     pub here : drop p steps ≡ stepsBytes (drop index (candidates (c .header .n)))
-    pub same-numbers : numbers ≡ e .numbers
+    pub same-numbers : numbers ≡ l
     pub putting : Putting goes (candidates (c .header .n)) out₀ at out place index
 
-module _ {e : Exercise} {steps : List ℕ} {c : Context} {left : ℕ} (g : Reached e steps c left) (some : left ≢ 0) where
+module _ {e : Prefix} {l : List ℕ} {store : Store} {steps : List ℕ} {c : Context} {left : ℕ} (g : Reached e l store steps c left) (some : left ≢ 0) where
   abbrev all : List Step
   all = candidates (c .header .n)
 
   abbrev r : Release
-  r = reached e
+  r = releaseIn l store
 
   abbrev tries : Step → List ℕ
-  tries = goes e steps c left
+  tries = goes e l store steps c left
 
-  whole : levelBytes c e left ≡ each tries all
+  whole : levelBytes e l store c left ≡ each tries all
   whole = some-left all left r (textOf e) some
 
-  pub begins : (out : List ℕ) (at : ℕ) → Trying e steps c left out at out (e .numbers) at 0
+  pub begins : (out : List ℕ) (at : ℕ) → Trying e l store steps c left out at out l at 0
   begins out at = record { index = 0; within = omega arith; here = g .records; same-numbers = refl; putting = put-none tries all out at }
 
-  pub arrived : {out₀ out numbers : List ℕ} {at place p : ℕ} → Trying e steps c left out₀ at out numbers place p → length steps ≤ p → Put out₀ at (levelBytes c e left) place out
+  pub arrived : {out₀ out numbers : List ℕ} {at place p : ℕ} → Trying e l store steps c left out₀ at out numbers place p → length steps ≤ p → Put out₀ at (levelBytes e l store c left) place out
   arrived {out₀} {out} {numbers} {at} {place} {p} t end = rw whole (put-all tries all out₀ at out place (t .index) (t .putting) done)
     where
       none : length (stepsBytes (drop (t .index) all)) ≡ 0
@@ -133,14 +133,14 @@ module _ {e : Exercise} {steps : List ℕ} {c : Context} {left : ℕ} (g : Reach
   same-mask = ap full (g .same-n) ∙ sym (g .mask)
 
   has : HasPlaces r
-  has = in-places (e .numbers) (e .store)
+  has = in-places l store
 
   calls-of : (p : ℕ) → p < suc places → getD (r .calls) p 0 + left < countLimit
-  calls-of p q = rw (getD-tabulate (suc places) (countIn (e .numbers)) p 0 q) (g .countable p q)
+  calls-of p q = rw (getD-tabulate (suc places) (countIn l) p 0 q) (g .countable p q)
 
   -- One turn
 
-  module _ {out₀ out numbers : List ℕ} {at place p : ℕ} (t : Trying e steps c left out₀ at out numbers place p) (more : p < length steps) where
+  module _ {out₀ out numbers : List ℕ} {at place p : ℕ} (t : Trying e l store steps c left out₀ at out numbers place p) (more : p < length steps) where
     pub there : t .index < length all
     there = go (decLt (t .index) (length all))
       where
@@ -173,11 +173,11 @@ module _ {e : Exercise} {steps : List ℕ} {c : Context} {left : ℕ} (g : Reach
     added-here = ap (take (recordLength (stepRecord tried))) first ∙ take-at (recordBytes (stepRecord tried)) (stepsBytes later) (recordLength (stepRecord tried)) (record-length (stepRecord tried))
 
     -- and what is added to the schedule
-    pub extends-here : (size : ℕ) → size ≡ recordLength (stepRecord tried) → {k : List ℕ} {store : Store} {f : Exercise} → Extends e (take (p + size - p) (drop p steps)) k store f
-        → Extends e (recordBytes (stepRecord tried)) k store f
-    extends-here size q {k} {store} {f} x =
+    pub extends-here : (size : ℕ) → size ≡ recordLength (stepRecord tried) → {f : Prefix} → Extends e (take (p + size - p) (drop p steps)) f
+        → Extends e (recordBytes (stepRecord tried)) f
+    extends-here size q {f} x =
         let cut : p + size - p ≡ recordLength (stepRecord tried) = omega (arith, q) in
-        subst (λ l. Extends e l k store f) (ap (λ j. take j (drop p steps)) cut ∙ added-here) x
+        subst (λ b. Extends e b f) (ap (λ j. take j (drop p steps)) cut ∙ added-here) x
 
     pub fits : p + recordLength (stepRecord tried) ≤ length steps
     fits = omega (arith, length-drop p steps, ap length first, front-length (stepRecord tried) (stepsBytes later), more)
@@ -203,8 +203,8 @@ module _ {e : Exercise} {steps : List ℕ} {c : Context} {left : ℕ} (g : Reach
         ∙ drop-at (recordBytes (stepRecord tried)) (stepsBytes later) (recordLength (stepRecord tried)) (record-length (stepRecord tried))
 
     -- what the step puts, and then the next one is tried
-    next-one : {out′ : List ℕ} {place′ : ℕ} (bytes : List ℕ) → bytes ≡ tries tried → Put out place bytes place′ out′ → (numbers′ : List ℕ) → numbers′ ≡ e .numbers
-        → Trying e steps c left out₀ at out′ numbers′ place′ (p + recordLength (stepRecord tried))
+    next-one : {out′ : List ℕ} {place′ : ℕ} (bytes : List ℕ) → bytes ≡ tries tried → Put out place bytes place′ out′ → (numbers′ : List ℕ) → numbers′ ≡ l
+        → Trying e l store steps c left out₀ at out′ numbers′ place′ (p + recordLength (stepRecord tried))
     next-one {out′} {place′} bytes same put numbers′ q =
         record {
           index = t .index + 1;
@@ -215,34 +215,34 @@ module _ {e : Exercise} {steps : List ℕ} {c : Context} {left : ℕ} (g : Reach
               rw (put .leaves, put .ends, same) (put-next tries all out₀ at out place (t .index) (t .putting) Step.Start there);
         }
 
-    module _ {o : Outcome} {b : Bool} {k : List ℕ} {store : Store} (leads : Steps (c .all) (λ r. step r tried) numbers (e .store) o b k store) where
-      led : (o ≡ step r tried .outcome) × (k ≡ fields (step r tried .next)) × (store ≡ step r tried .next .store) × (b ≡ step r tried .closed)
+    module _ {o : Outcome} {b : Bool} {k : List ℕ} {left-store : Store} (leads : Steps (c .all) (λ r. step r tried) numbers store o b k left-store) where
+      led : (o ≡ step r tried .outcome) × (k ≡ fields (step r tried .next)) × (left-store ≡ step r tried .next .store) × (b ≡ step r tried .closed)
       led = leads r has same-mask represented refl
 
       -- a step that is not due
-      pub stayed : moves o ≡ false → Trying e steps c left out₀ at out k place (p + recordLength (stepRecord tried))
+      pub stayed : moves o ≡ false → Trying e l store steps c left out₀ at out k place (p + recordLength (stepRecord tried))
       stayed idle =
           let no : isDue r tried ≡ false = sym (ap moves (led .0)) ∙ idle in
           let same = led .1 ∙ ap (λ (x : Report). fields (x .next)) (not-due-stays r tried no) ∙ sym (g .numbers) in
           next-one [] (sym (ap (λ d. cond d (goingOn all (left - 1) (step r tried .next) (textOf e ++ recordBytes (stepRecord tried))) []) no)) (record { ends = omega arith; leaves = refl }) k same
 
       -- a step that is due, and the schedule with it
-      module _ (due : moves o ≡ true) {f : Exercise} (x : Extends e (recordBytes (stepRecord tried)) k store f) where
-        release-is : reached f ≡ step r tried .next
+      module _ (due : moves o ≡ true) {f : Prefix} (x : Extends e (recordBytes (stepRecord tried)) f) where
+        release-is : releaseIn k left-store ≡ step r tried .next
         release-is =
-            ap₂ releaseIn (x .same-numbers ∙ led .1) (x .same-store ∙ led .2)
+            ap₂ releaseIn (led .1) (led .2)
             ∙ release-in (step r tried .next) (step-places r tried has) (λ q. small q (decLt q (suc places)))
           where
             small : (q : ℕ) → Dec (q < suc places) → getD (step r tried .next .calls) q 0 < 65536
             small q (yes h) = omega (arith, one-call-more r tried q, calls-of q h)
             small q (no h) = rw (List·getD-eq-default (step r tried .next .calls) 0 {n = q} (omega (arith, h, step-places r tried has .calls))) (omega arith)
 
-        goes-on : levelBytes c f (left - 1) ≡ tries tried
+        goes-on : levelBytes f k left-store c (left - 1) ≡ tries tried
         goes-on =
-            ap₂ (λ (y : Release) (l : List ℕ). goingOn all (left - 1) y l) release-is (x .text)
+            ap₂ (λ (y : Release) (b : List ℕ). goingOn all (left - 1) y b) release-is (x .text)
             ∙ sym (ap (λ d. cond d (goingOn all (left - 1) (step r tried .next) (textOf e ++ recordBytes (stepRecord tried))) []) (sym (ap moves (led .0)) ∙ due))
 
-        pub reaches : Reached f steps c (left - 1)
+        pub reaches : Reached f k left-store steps c (left - 1)
         reaches =
             record {
               size = x .size;
@@ -250,26 +250,26 @@ module _ {e : Exercise} {steps : List ℕ} {c : Context} {left : ℕ} (g : Reach
               header = g .header;
               mask = g .mask;
               records = g .records;
-              numbers = x .same-numbers ∙ led .1 ∙ ap fields (sym release-is);
+              numbers = led .1 ∙ ap fields (sym release-is);
               same-n = ap (λ (y : Release). y .n) release-is ∙ caused-room r (cause r tried) .same-n ∙ g .same-n;
-              countable = λ q h. omega (arith, sym (getD-tabulate (suc places) (countIn (f .numbers)) q 0 h) ∙ ap (λ (y : Release). getD (y .calls) q 0) release-is, one-call-more r tried q, calls-of q h, some);
+              countable = λ q h. omega (arith, sym (getD-tabulate (suc places) (countIn k) q 0 h) ∙ ap (λ (y : Release). getD (y .calls) q 0) release-is, one-call-more r tried q, calls-of q h, some);
             }
 
-        pub has-room : at + length (levelBytes c e left) ≤ length out₀ → place + length (levelBytes c f (left - 1)) ≤ length out
+        pub has-room : at + length (levelBytes e l store c left) ≤ length out₀ → place + length (levelBytes f k left-store c (left - 1)) ≤ length out
         has-room enough =
             omega (arith, ap length goes-on, put-room tries all out₀ at out place (t .index) (t .putting) Step.Start there, ap length whole, t .putting .same, enough)
 
-        pub went : {out′ : List ℕ} {place′ : ℕ} → Put out place (levelBytes c f (left - 1)) place′ out′ → Trying e steps c left out₀ at out′ (e .numbers) place′ (p + recordLength (stepRecord tried))
-        went put = next-one (levelBytes c f (left - 1)) goes-on put (e .numbers) refl
+        pub went : {out′ : List ℕ} {place′ : ℕ} → Put out place (levelBytes f k left-store c (left - 1)) place′ out′ → Trying e l store steps c left out₀ at out′ l place′ (p + recordLength (stepRecord tried))
+        went put = next-one (levelBytes f k left-store c (left - 1)) goes-on put l refl
 
 -- Where no step is left, the schedule itself is put
 
-module _ (c : Context) (e : Exercise) (left : ℕ) (none : left ≡ 0) where
-  leaf : levelBytes c e left ≡ textOf e
-  leaf = ap (λ k. goingOn (candidates (c .header .n)) k (reached e) (textOf e)) none ∙ none-left (candidates (c .header .n)) (reached e) (textOf e)
+module _ (e : Prefix) (l : List ℕ) (store : Store) (c : Context) (left : ℕ) (none : left ≡ 0) where
+  leaf : levelBytes e l store c left ≡ textOf e
+  leaf = ap (λ k. goingOn (candidates (c .header .n)) k (releaseIn l store) (textOf e)) none ∙ none-left (candidates (c .header .n)) (releaseIn l store) (textOf e)
 
-  pub leaf-room : (at room : ℕ) → at + length (levelBytes c e left) ≤ room → at + length (textOf e) ≤ room
+  pub leaf-room : (at room : ℕ) → at + length (levelBytes e l store c left) ≤ room → at + length (textOf e) ≤ room
   leaf-room at room enough = omega (arith, ap length leaf, enough)
 
-  pub leaf-put : {out out′ : List ℕ} {at end : ℕ} → Put out at (textOf e) end out′ → Put out at (levelBytes c e left) end out′
+  pub leaf-put : {out out′ : List ℕ} {at end : ℕ} → Put out at (textOf e) end out′ → Put out at (levelBytes e l store c left) end out′
   leaf-put put = put-same (sym leaf) put

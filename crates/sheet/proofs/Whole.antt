@@ -27,8 +27,8 @@ use Rattle.exercises.specs.Sheet.{candidates, dueLists, sheetBytes, headerFor, 
 use Rattle.exercises.specs.Promises.{longestSheet}
 use Rattle.exercises.proofs.Holds.{Bounds, bounds}
 use Rattle.exercises.proofs.Fits.{sheet-fits}
-use Rattle.sheet.specs.Types.{Kind, Header, Context, Written, Release, Exercise}
-use Rattle.sheet.specs.Level.{choices, choiceBytes, textOf, reached, goingOn, levelBytes, Begins, Reached, inBoundsWith, InBounds}
+use Rattle.sheet.specs.Types.{Kind, Header, Context, Store, Written, Release, Prefix}
+use Rattle.sheet.specs.Level.{choices, choiceBytes, goingOn, levelBytes, Begins, Reached, inBoundsWith, InBounds}
 use Rattle.sheet.proofs.Bytes.{all-steps}
 
 module _ {c : Context} {k : ℕ} (b : InBounds c k) where
@@ -52,29 +52,32 @@ module _ {c : Context} {k : ℕ} (b : InBounds c k) where
   pub records : (steps : List ℕ) → steps ≡ each (choiceBytes (h .n)) choices → steps ≡ stepsBytes (candidates (h .n))
   records steps e = e ∙ all-steps (h .n) (header-size h ranged .0) sites
 
-  module _ {e : Exercise} (begins : Begins h e) where
-    fresh-is : reached e ≡ freshOf h
-    fresh-is = ap₂ releaseIn (begins .numbers) (begins .store) ∙ fresh-back h
+  -- the fresh release
 
-    calls-none : (p : ℕ) → p < suc places → countIn (e .numbers) p ≡ 0
-    calls-none p q = sym (getD-tabulate (suc places) (countIn (e .numbers)) p 0 q) ∙ ap (λ (r : Release). getD (r .calls) p 0) fresh-is ∙ no-calls h p
+  module _ {l : List ℕ} {store : Store} (numbers : l ≡ fields (freshOf h)) (stored : store ≡ freshOf h .store) where
+    fresh-is : releaseIn l store ≡ freshOf h
+    fresh-is = ap₂ releaseIn numbers stored ∙ fresh-back h
 
-    pub starts : (steps : List ℕ) → steps ≡ stepsBytes (candidates (h .n)) → Reached e steps c k
-    starts steps all =
-        record {
-          size = begins .size;
-          short = omega (arith, begins .long, ap bodyLength (b .kind), within .few);
-          header = ranged;
-          mask = ap (λ (x : Context). x .all) (b .context) ∙ handed-on h ranged;
-          records = all;
-          numbers = begins .numbers ∙ ap fields (sym fresh-is);
-          same-n = ap (λ (r : Release). r .n) fresh-is;
-          countable = λ p q. omega (arith, calls-none p q, within .few);
-        }
+    calls-none : (q : ℕ) → q < suc places → countIn l q ≡ 0
+    calls-none q g = sym (getD-tabulate (suc places) (countIn l) q 0 g) ∙ ap (λ (r : Release). getD (r .calls) q 0) fresh-is ∙ no-calls h q
 
-    pub whole : levelBytes c e k ≡ sheetBytes h k
-    unfolding goingOn
-    whole = ap₂ (λ (r : Release) (l : List ℕ). goingOn (candidates (h .n)) k r l) fresh-is (begins .text)
+    module _ {p : Prefix} (begins : Begins h p) where
+      pub starts : (steps : List ℕ) → steps ≡ stepsBytes (candidates (h .n)) → Reached p l store steps c k
+      starts steps all =
+          record {
+            size = begins .size;
+            short = omega (arith, begins .long, ap bodyLength (b .kind), within .few);
+            header = ranged;
+            mask = ap (λ (x : Context). x .all) (b .context) ∙ handed-on h ranged;
+            records = all;
+            numbers = numbers ∙ ap fields (sym fresh-is);
+            same-n = ap (λ (r : Release). r .n) fresh-is;
+            countable = λ q g. omega (arith, calls-none q g, within .few);
+          }
+
+      pub whole : levelBytes p l store c k ≡ sheetBytes h k
+      unfolding goingOn
+      whole = ap₂ (λ (r : Release) (bytes : List ℕ). goingOn (candidates (h .n)) k r bytes) fresh-is (begins .text)
 
 -- what was put at the front, and where it ends
 pub front-ends : {before after bytes : List ℕ} {end : ℕ} → Put before 0 bytes end after → length bytes ≤ length before → end ≤ length after

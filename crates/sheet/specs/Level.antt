@@ -13,9 +13,8 @@ use Rattle.schedule.specs.Context.{contextOf, contextInRange}
 use Rattle.schedule.specs.Schedule.{stepsBytes}
 use Rattle.rules.specs.Run.{countLimit}
 use Rattle.state.specs.Fields.{fields, nIn, countIn, releaseIn}
-use Rattle.passes.specs.Pass.{freshOf}
 use Rattle.exercises.specs.Sheet.{candidates, dueLists, inBounds, mostSites, mostSteps}
-use Rattle.sheet.specs.Types.{Kind, Step, Header, Context, Record, Store, Release, Exercise}
+use Rattle.sheet.specs.Types.{Kind, Step, Header, Context, Record, Store, Release, Prefix}
 
 -- Kinds 2 to 10, first numbers 0 to 5 and second numbers 0 to 2, each a choice by its number: in ascending order of their bytes. Steps for two sites have
 -- no others
@@ -38,48 +37,40 @@ longestSteps = 145
 abbrev pub longestExercise : ℕ
 longestExercise = 12
 
--- a schedule so far: its bytes, and the release that its steps lead to
-
-abbrev pub textOf : Exercise → List ℕ
-textOf e = take (e .len) (e .bytes)
-
-abbrev pub reached : Exercise → Release
-reached e = releaseIn (e .numbers) (e .store)
+-- the first bytes of a schedule
+abbrev pub textOf : Prefix → List ℕ
+textOf p = take (p .len) (p .bytes)
 
 -- with one step more
-pub record Extends (e : Exercise) (added : List ℕ) (numbers : List ℕ) (store : Store) (next : Exercise) : Type 0 where
+pub record Extends (p : Prefix) (added : List ℕ) (next : Prefix) : Type 0 where
   pub size : length (next .bytes) ≡ longestExercise
-  pub long : next .len ≡ e .len + length added
-  pub text : textOf next ≡ textOf e ++ added
-  pub same-numbers : next .numbers ≡ numbers
-  pub same-store : next .store ≡ store
+  pub long : next .len ≡ p .len + length added
+  pub text : textOf next ≡ textOf p ++ added
 
 -- the bytes of the schedules that begin with some bytes and go on with k of these steps, each due when its turn comes from a release on
 unfoldable pub goingOn : List Step → ℕ → Release → List ℕ → List ℕ
 goingOn steps k r bytes = flatten (map (λ ss. bytes ++ stepsBytes ss) (dueLists steps k r))
 
-abbrev pub levelBytes : Context → Exercise → ℕ → List ℕ
-levelBytes c e left = goingOn (candidates (c .header .n)) left (reached e) (textOf e)
+abbrev pub levelBytes : Prefix → List ℕ → Store → Context → ℕ → List ℕ
+levelBytes p l store c left = goingOn (candidates (c .header .n)) left (releaseIn l store) (textOf p)
 
 -- what a level starts from: room for the steps that are left, numbers and a store that represent a release with the header's n, the records of all steps under
 -- it, and counts with room for a call at each step
-pub record Reached (e : Exercise) (steps : List ℕ) (c : Context) (left : ℕ) : Type 0 where
-  pub size : length (e .bytes) ≡ longestExercise
-  pub short : e .len + 3 * left ≤ longestExercise
+pub record Reached (p : Prefix) (l : List ℕ) (store : Store) (steps : List ℕ) (c : Context) (left : ℕ) : Type 0 where
+  pub size : length (p .bytes) ≡ longestExercise
+  pub short : p .len + 3 * left ≤ longestExercise
   pub header : headerInRange (c .header) ≡ true
   pub mask : c .all ≡ full (c .header .n)
   pub records : steps ≡ stepsBytes (candidates (c .header .n))
-  pub numbers : e .numbers ≡ fields (reached e)
-  pub same-n : nIn (e .numbers) ≡ c .header .n
-  pub countable : (p : ℕ) → p < suc places → countIn (e .numbers) p + left < countLimit
+  pub numbers : l ≡ fields (releaseIn l store)
+  pub same-n : nIn l ≡ c .header .n
+  pub countable : (q : ℕ) → q < suc places → countIn l q + left < countLimit
 
--- a schedule without a step: its header, and the fresh release
-pub record Begins (h : Header) (e : Exercise) : Type 0 where
-  pub size : length (e .bytes) ≡ longestExercise
-  pub long : e .len ≡ recordLength (headerRecord h)
-  pub text : textOf e ≡ recordBytes (headerRecord h)
-  pub numbers : e .numbers ≡ fields (freshOf h)
-  pub store : e .store ≡ freshOf h .store
+-- a schedule without a step: its header
+pub record Begins (h : Header) (p : Prefix) : Type 0 where
+  pub size : length (p .bytes) ≡ longestExercise
+  pub long : p .len ≡ recordLength (headerRecord h)
+  pub text : textOf p ≡ recordBytes (headerRecord h)
 
 -- what is asked of a sheet, by its header with the mask of all participants
 

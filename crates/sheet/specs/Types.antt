@@ -1,4 +1,4 @@
--- The declared types of a schedule so far, and those of the layers below that it speaks of.
+-- The declared type of the first bytes of a schedule, and those of the layers below that a sheet speaks of.
 pub use Rattle.kind.specs.declared.Kind.{Kind}
 pub use Rattle.kind.specs.declared.Step.{Step}
 pub use Rattle.schedule.specs.declared.Header.{Header}
@@ -11,4 +11,4 @@ pub use Rattle.writer.specs.declared.Written.{Written}
 pub use Rattle.rules.specs.declared.Release.{Release}
 pub use Rattle.rules.specs.declared.Outcome.{Outcome}
 pub use Rattle.rules.specs.declared.Report.{Report}
-pub use Rattle.sheet.specs.declared.Exercise.{Exercise}
+pub use Rattle.sheet.specs.declared.Prefix.{Prefix}

@@ -62,53 +62,67 @@ fn put_steps(out: &mut [u8], n: u32) -> usize
     at
 }
 
-// A schedule so far: its bytes, and the release that its steps lead to, as numbers beside the store.
-pub struct Exercise {
+// The first bytes of a schedule.
+pub struct Prefix {
     pub bytes: [u8; LONGEST_EXERCISE],
     pub len: usize,
-    pub numbers: [u32; FIELDS],
-    pub store: Store,
 }
 
-impl Exercise {
-    // The schedule with one step more, which leads to another release.
-    fn with_step(self, added: &[u8], numbers: [u32; FIELDS], store: Store) -> Exercise
+impl Prefix {
+    // The schedule with one step more.
+    fn with_step(self, added: &[u8]) -> Prefix
         requires { ⌜ (length (self .bytes) ≡ longestExercise) × (self .len + length (now added) ≤ longestExercise) ⌝ }
-        ensures { λ e. ⌜ Extends self (now (added .entry)) numbers store e ⌝ }
+        ensures { λ p. ⌜ Extends self (now (added .entry)) p ⌝ }
     {
         let mut bytes = self.bytes;
         let len = put(&mut bytes, self.len, added);
-        Exercise {
+        Prefix {
             bytes: bytes,
             len: len,
-            numbers: numbers,
-            store: store,
         }
     }
 }
 
-// Puts each schedule that begins with this one and goes on with `left` due steps: after each step that is due, those with one step fewer. A step that is
-// not due leaves the numbers as they were.
-fn list(out: &mut [u8], at: usize, e: Exercise, steps: &[u8], context: Context, left: u32) -> usize
-    requires { ⌜ Reached e (now steps) context left × (at + length (levelBytes context e left) ≤ length (now out)) ⌝ }
-    ensures { λ end. ⌜ Put (now (out .entry)) at (levelBytes context e left) end (now (out .exit)) ⌝ }
+// Puts each schedule that begins with these bytes and goes on with `left` due steps, from the release that the numbers and the store represent: after each
+// step that is due, those with one step fewer. A step that is not due leaves the numbers as they were.
+fn list(
+    out: &mut [u8],
+    at: usize,
+    p: Prefix,
+    numbers: [u32; FIELDS],
+    store: Store,
+    steps: &[u8],
+    context: Context,
+    left: u32,
+) -> usize
+    requires { ⌜ Reached p numbers store (now steps) context left × (at + length (levelBytes p numbers store context left) ≤ length (now out)) ⌝ }
+    ensures { λ end. ⌜ Put (now (out .entry)) at (levelBytes p numbers store context left) end (now (out .exit)) ⌝ }
 {
     if left == 0 {
-        let bytes = e.bytes;
-        return put(out, at, &bytes[..e.len]);
+        let bytes = p.bytes;
+        return put(out, at, &bytes[..p.len]);
     }
-    let mut numbers = e.numbers;
+    let mut now = numbers;
     let mut place = at;
     let mut c: usize = 0;
     while c < steps.len() {
         let s = step_at(&steps[c..]);
         let size = length_at(&steps[c..]);
-        let stepped = step(&mut numbers, e.store, context.all, s);
+        let stepped = step(&mut now, store, context.all, s);
         let outcome = stepped.outcome;
         if moves(outcome) {
-            let next = e.with_step(&steps[c..c + size], numbers, stepped.store);
-            place = list(out, place, next, steps, context, left - 1);
-            numbers = e.numbers;
+            let next = p.with_step(&steps[c..c + size]);
+            place = list(
+                out,
+                place,
+                next,
+                now,
+                stepped.store,
+                steps,
+                context,
+                left - 1,
+            );
+            now = numbers;
         }
         c = c + size;
     }
@@ -131,9 +145,9 @@ fn in_bounds(context: Context, k: u32) -> bool
     }
 }
 
-// A schedule without a step: its header, and the fresh release.
-fn begin(header: Header) -> Exercise
-    ensures { λ e. ⌜ Begins header e ⌝ }
+// A schedule without a step: its header.
+fn begin(header: Header) -> Prefix
+    ensures { λ p. ⌜ Begins header p ⌝ }
 {
     let mut bytes = [0u8; LONGEST_EXERCISE];
     let kind = header.kind;
@@ -143,12 +157,9 @@ fn begin(header: Header) -> Exercise
         second: header.votes,
     };
     writer::put(&mut bytes, 0, r);
-    let numbers = fresh(header.n, header.votes);
-    Exercise {
+    Prefix {
         bytes: bytes,
         len: r.length(),
-        numbers: numbers,
-        store: Store::empty(),
     }
 }
 
@@ -160,8 +171,10 @@ fn put_sheet(out: &mut [u8], context: Context, k: u32) -> usize
     let header = context.header;
     let mut steps = [0u8; LONGEST_STEPS];
     let end = put_steps(&mut steps, header.n);
-    let e = begin(header);
-    list(out, 0, e, &steps[..end], context, k)
+    let p = begin(header);
+    let numbers = fresh(header.n, header.votes);
+    let store = Store::empty();
+    list(out, 0, p, numbers, store, &steps[..end], context, k)
 }
 
 // Writes the sheet of all schedules under header 01 with n and these votes and k due steps. Answers its length; a sheet that is not there and a buffer

@@ -1,15 +1,16 @@
 //! Runs many schedules: reads frames of a two-byte length, low byte first, and a schedule, and
 //! prints one line for each, the report in hexadecimal or the refusal. With the word `class` it
-//! reads one class file instead and prints its figures or the refusal.
+//! reads one class file instead and prints its figures or the refusal; with the word `sheet` it
+//! reads n, vote mask and k, a byte each, and prints the schedules of that sheet or the refusal.
 
 use std::env;
 use std::ffi::OsString;
 use std::io::{self, BufRead, BufReader, ErrorKind, Read, Write};
 use std::process::ExitCode;
 
-use second::{class_text, run, Refusal};
+use second::{class_text, run, sheet_text, Refusal};
 
-const USAGE: &str = "usage: second | second class";
+const USAGE: &str = "usage: second | second class | second sheet";
 
 const INPUT_BLOCK: usize = 1 << 20;
 const OUTPUT_BLOCK: usize = 1 << 20;
@@ -22,6 +23,7 @@ fn main() -> io::Result<ExitCode> {
     match &words[..] {
         [] => run_frames()?,
         [word] if word == "class" => print_class()?,
+        [word] if word == "sheet" => print_sheet()?,
         _ => {
             eprintln!("{USAGE}");
             return Ok(ExitCode::from(2));
@@ -36,6 +38,18 @@ fn print_class() -> io::Result<()> {
     io::stdin().lock().read_to_end(&mut file)?;
     let mut output = io::stdout().lock();
     output.write_all(class_text(&file).as_bytes())?;
+    output.flush()
+}
+
+/// The sheet of the n, vote mask and k that standard input begins with. A byte that is missing
+/// counts as 0, and what follows the three is not read.
+fn print_sheet() -> io::Result<()> {
+    let mut given = Vec::new();
+    io::stdin().lock().take(3).read_to_end(&mut given)?;
+    let number = |place: usize| given.get(place).map_or(0, |&byte| u32::from(byte));
+    let text = sheet_text(number(0), number(1), number(2));
+    let mut output = io::stdout().lock();
+    output.write_all(text.as_bytes())?;
     output.flush()
 }
 

@@ -3,6 +3,9 @@
 // Each test file uses a part of these.
 #![allow(dead_code)]
 
+use std::io::Write;
+use std::process::{Command, Output, Stdio};
+
 use second::{is_due, single_step, write_record, Form, Header, Record, Refusal, Tail};
 
 /// The bytes of a text such as `01 0A FF`.
@@ -171,6 +174,22 @@ pub fn participants() -> Vec<Participant> {
         }
     }
     participants
+}
+
+/// How program `second` ends with these words and this input.
+pub fn output(words: &[&str], input: &[u8]) -> Output {
+    let mut program = Command::new(env!("CARGO_BIN_EXE_second"))
+        .args(words)
+        .stdin(Stdio::piped())
+        .stdout(Stdio::piped())
+        .stderr(Stdio::piped())
+        .spawn()
+        .expect("program starts");
+    let mut stdin = program.stdin.take().expect("standard input");
+    // One that prints its usage does not read.
+    let _ = stdin.write_all(input);
+    drop(stdin);
+    program.wait_with_output().expect("program ends")
 }
 
 /// Numbers that repeat from one test run to the next.

@@ -21,13 +21,13 @@ use Rattle.effect.proofs.outcome.moves.Reads as moves-reads
 use Rattle.release.proofs.step.Reads as step-reads
 use Rattle.schedule.proofs.reader.length_at.Reads as length-at-reads
 use Rattle.schedule.proofs.reader.step_at.Reads as step-at-reads
-use Rattle.sheet.proofs.Exercise.with_step.Reads as with-step-reads
+use Rattle.sheet.proofs.Prefix.with_step.Reads as with-step-reads
 use Rattle.text.proofs.put.Reads as put-reads
 use Rattle.sheet.proofs.+list.{statement}
 use Rattle.sheet.proofs.+list.Tie.{close}
 
 abbrev μ-list : Measures 2 list-kinds.ps ℕ
-μ-list κs a = a .1 .1 .1 .1 .1 .0
+μ-list κs a = a .1 .1 .1 .1 .1 .1 .1 .0
 
 abbrev list-at : ℕ → In 2 list-kinds.ps
 list-at t = and 2 list-kinds.ps (is 2 list-kinds.ps μ-list t) list.Pre
@@ -36,10 +36,10 @@ abbrev list-below : ℕ → In 2 list-kinds.ps
 list-below t = and 2 list-kinds.ps (falls 2 list-kinds.ps _<_ μ-list t) list.Pre
 
 abbrev list-Inv-loop : list-lts.InvT-loop
-list-Inv-loop out₀ at e steps context left numbers₀ place₀ c₀ out numbers place c = (left ≢ 0) × Trying e steps context left out₀ at out numbers place c
+list-Inv-loop out₀ at p numbers store steps context left now₀ place₀ c₀ out now place c = (left ≢ 0) × Trying p numbers store steps context left out₀ at out now place c
 
 abbrev list-μ-loop : list-lts.MeasureT-loop
-list-μ-loop out₀ at e steps context left numbers₀ place₀ c₀ out numbers place c = length steps - c
+list-μ-loop out₀ at p numbers store steps context left now₀ place₀ c₀ out now place c = length steps - c
 
 pub +list-spec : {M : Type 1} → statement M
 +list-spec = close μ-list λ t. list-lts.spec (
@@ -63,11 +63,11 @@ pub +list-spec : {M : Type 1} → statement M
     list-Inv-loop
     list-μ-loop
     (λ c. let start = c .before .before .before .before .before in omega (arith, start .pre .1 .0 .size, start .pre .1 .0 .short))
-    (λ c. let start = c .before .before .before .before .before .before in sym (length-take-le (start .args .e .len) (start .args .e .bytes) (omega (arith, start .pre .1 .0 .size, start .pre .1 .0 .short))))
-    (λ c κs. let start = c .before .before .before .before .before .before in leaf-room (start .args .context) (start .args .e) (start .args .left) (c .before .before .before .if1 .taken) (start .args .at) _ (start .pre .1 .1))
+    (λ c. let start = c .before .before .before .before .before .before in sym (length-take-le (start .args .p .len) (start .args .p .bytes) (omega (arith, start .pre .1 .0 .size, start .pre .1 .0 .short))))
+    (λ c κs. let start = c .before .before .before .before .before .before in leaf-room (start .args .p) (start .args .numbers) (start .args .store) (start .args .context) (start .args .left) (c .before .before .before .if1 .taken) (start .args .at) _ (start .pre .1 .1))
     (λ c. search needs)
-    (λ c. let start = c .before .before .before .before .before .before .before .before .before in leaf-put (start .args .context) (start .args .e) (start .args .left) (c .before .before .before .before .before .before .if1 .taken) (c .before .before .put .ensures))
-    (λ c. let start = c .before .before .before .before in (c .before .if1 .left, begins (start .pre .1 .0) (c .before .if1 .left) (start .args .out .now) (start .args .at)))
+    (λ c. let start = c .before .before .before .before .before .before .before .before .before in leaf-put (start .args .p) (start .args .numbers) (start .args .store) (start .args .context) (start .args .left) (c .before .before .before .before .before .before .if1 .taken) (c .before .before .put .ensures))
+    (λ c. let start = c .before .before .before in (c .if1 .left, begins (start .pre .1 .0) (c .if1 .left) (start .args .out .now) (start .args .at)))
     (λ c. search needs)
     (λ c. search needs)
     (λ c. search needs)
@@ -77,7 +77,7 @@ pub +list-spec : {M : Type 1} → statement M
     (λ c. search needs)
     (λ c κs. search needs)
     (λ c κs.
-    let start = c .before .before .before .before .before .before .before .before .before .before .before in
+    let start = c .before .before .before .before .before .before .before .before .before .before in
     let g = start .pre .1 .0 in
     let turn = c .before .before .before .before .before .before .loop in
     let some = turn .inv .0 in
@@ -86,7 +86,7 @@ pub +list-spec : {M : Type 1} → statement M
     (rw here (in-places-too g some (turn .inv .1) more), can-count g some (turn .inv .1) more))
     (λ c κs. search needs)
     (λ c.
-    let start = c .before .before .before .before .before .before .before .before .before .before .before .before .before .before in
+    let start = c .before .before .before .before .before .before .before .before .before .before .before .before .before in
     let g = start .pre .1 .0 in
     let turn = c .before .before .before .before .before .before .before .before .before .loop in
     let some = turn .inv .0 in
@@ -94,7 +94,7 @@ pub +list-spec : {M : Type 1} → statement M
     let size = c .before .before .before .before .length-at .ensures ∙ ap lengthAt (tail-part (start .args .steps .now) (turn .c)) ∙ size-here g some (turn .inv .1) more in
     omega (arith, size, fits g some (turn .inv .1) more))
     (λ c.
-    let start = c .before .before .before .before .before .before .before .before .before .before .before .before .before .before in
+    let start = c .before .before .before .before .before .before .before .before .before .before .before .before .before in
     let g = start .pre .1 .0 in
     let turn = c .before .before .before .before .before .before .before .before .before .loop in
     let some = turn .inv .0 in
@@ -102,7 +102,7 @@ pub +list-spec : {M : Type 1} → statement M
     let size = c .before .before .before .before .length-at .ensures ∙ ap lengthAt (tail-part (start .args .steps .now) (turn .c)) ∙ size-here g some (turn .inv .1) more in
     omega arith)
     (λ c.
-    let start = c .before .before .before .before .before .before .before .before .before .before .before .before .before .before in
+    let start = c .before .before .before .before .before .before .before .before .before .before .before .before .before in
     let g = start .pre .1 .0 in
     let turn = c .before .before .before .before .before .before .before .before .before .loop in
     let some = turn .inv .0 in
@@ -110,7 +110,7 @@ pub +list-spec : {M : Type 1} → statement M
     let size = c .before .before .before .before .length-at .ensures ∙ ap lengthAt (tail-part (start .args .steps .now) (turn .c)) ∙ size-here g some (turn .inv .1) more in
     search needs)
     (λ c.
-    let start = c .before .before .before .before .before .before .before .before .before .before .before .before .before .before in
+    let start = c .before .before .before .before .before .before .before .before .before .before .before .before .before in
     let g = start .pre .1 .0 in
     let turn = c .before .before .before .before .before .before .before .before .before .loop in
     let some = turn .inv .0 in
@@ -118,7 +118,7 @@ pub +list-spec : {M : Type 1} → statement M
     let size = c .before .before .before .before .length-at .ensures ∙ ap lengthAt (tail-part (start .args .steps .now) (turn .c)) ∙ size-here g some (turn .inv .1) more in
     omega (arith, size, fits g some (turn .inv .1) more))
     (λ c κs.
-    let start = c .before .before .before .before .before .before .before .before .before .before .before .before .before .before .before in
+    let start = c .before .before .before .before .before .before .before .before .before .before .before .before .before .before in
     let g = start .pre .1 .0 in
     let turn = c .before .before .before .before .before .before .before .before .before .before .loop in
     let some = turn .inv .0 in
@@ -126,8 +126,8 @@ pub +list-spec : {M : Type 1} → statement M
     let size = c .before .before .before .before .before .length-at .ensures ∙ ap lengthAt (tail-part (start .args .steps .now) (turn .c)) ∙ size-here g some (turn .inv .1) more in
     (g .size, omega (arith, g .short, short g some (turn .inv .1) more, size, length-take-le (turn .c + c .before .before .before .before .before .length-at .result - turn .c) (drop (turn .c) (start .args .steps .now)) (omega (arith, size, fits g some (turn .inv .1) more, length-drop (turn .c) (start .args .steps .now))), some)))
     (λ c. let some = c .before .before .before .before .before .before .before .before .before .before .before .before .loop .inv .0 in omega (arith, some))
-    (λ c κs. 
-    let start = c .before .before .before .before .before .before .before .before .before .before .before .before .before .before .before .before .before in
+    (λ c κs.
+    let start = c .before .before .before .before .before .before .before .before .before .before .before .before .before .before .before .before in
     let g = start .pre .1 .0 in
     let turn = c .before .before .before .before .before .before .before .before .before .before .before .before .loop in
     let some = turn .inv .0 in
@@ -139,7 +139,7 @@ pub +list-spec : {M : Type 1} → statement M
     let next = extends-here g some (turn .inv .1) more _ size (c .before .with-step .ensures) in
     (omega (arith, start .pre .0, some), (reaches g some (turn .inv .1) more leads due next, has-room g some (turn .inv .1) more leads due next (start .pre .1 .1))))
     (λ c.
-    let start = c .before .before .before .before .before .before .before .before .before .before .before .before .before .before in
+    let start = c .before .before .before .before .before .before .before .before .before .before .before .before .before in
     let g = start .pre .1 .0 in
     let turn = c .before .before .before .before .before .before .before .before .before .loop in
     let some = turn .inv .0 in
@@ -147,7 +147,7 @@ pub +list-spec : {M : Type 1} → statement M
     let size = c .before .before .before .before .length-at .ensures ∙ ap lengthAt (tail-part (start .args .steps .now) (turn .c)) ∙ size-here g some (turn .inv .1) more in
     omega (arith, size, fits g some (turn .inv .1) more))
     (λ c.
-    let start = c .before .before .before .before .before .before .before .before .before .before .before .before .before .before in
+    let start = c .before .before .before .before .before .before .before .before .before .before .before .before .before in
     let g = start .pre .1 .0 in
     let turn = c .before .before .before .before .before .before .before .before .before .loop in
     let some = turn .inv .0 in
@@ -155,7 +155,7 @@ pub +list-spec : {M : Type 1} → statement M
     let size = c .before .before .before .before .length-at .ensures ∙ ap lengthAt (tail-part (start .args .steps .now) (turn .c)) ∙ size-here g some (turn .inv .1) more in
     omega (arith, size, fits g some (turn .inv .1) more, some-size g some (turn .inv .1) more))
     (λ c.
-    let start = c .before .before .before .before .before .before .before .before .before .before .before .before .before .before in
+    let start = c .before .before .before .before .before .before .before .before .before .before .before .before .before in
     let g = start .pre .1 .0 in
     let turn = c .before .before .before .before .before .before .before .before .before .loop in
     let some = turn .inv .0 in
@@ -163,6 +163,6 @@ pub +list-spec : {M : Type 1} → statement M
     let size = c .before .before .before .before .length-at .ensures ∙ ap lengthAt (tail-part (start .args .steps .now) (turn .c)) ∙ size-here g some (turn .inv .1) more in
     let here = c .before .before .before .before .before .before .step-at .ensures ∙ ap stepAt (tail-part (start .args .steps .now) (turn .c)) ∙ step-here g some (turn .inv .1) more in
     let leads = rw here at (c .before .before .step .ensures) in
-    (some, ⊎-elim (λ w. rw (w .8, w .9, w .10, size) (went g some (turn .inv .1) more leads (sym (c .before .moves .ensures) ∙ w .0 .taken) (extends-here g some (turn .inv .1) more _ size (w .2 .ensures)) (w .4 .ensures))) (λ w. rw (w .1, w .2, w .3, size) (stayed g some (turn .inv .1) more leads (sym (c .before .moves .ensures) ∙ w .0 .left))) (c .if2 .came)))
+    (some, ⊎-elim (λ w. rw (w .7, w .8, w .9, size) (went g some (turn .inv .1) more leads (sym (c .before .moves .ensures) ∙ w .0 .taken) (extends-here g some (turn .inv .1) more _ size (w .2 .ensures)) (w .4 .ensures))) (λ w. rw (w .1, w .2, w .3, size) (stayed g some (turn .inv .1) more leads (sym (c .before .moves .ensures) ∙ w .0 .left))) (c .if2 .came)))
     (λ c. c .before .loop .inv .1 .putting .same)
-    (λ c. let start = c .before .before .before .before .before .before in arrived (start .pre .1 .0) (c .before .loop .inv .0) (c .before .loop .inv .1) (c .loop-test .left))
+    (λ c. let start = c .before .before .before .before .before in arrived (start .pre .1 .0) (c .before .loop .inv .0) (c .before .loop .inv .1) (c .loop-test .left))

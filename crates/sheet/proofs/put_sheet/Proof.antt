@@ -25,15 +25,20 @@ put-sheet-spec =
     (λ c. search needs)
     (λ c κs. (sites (c .before .before .before .pre .0), lit≤ tt))
     (λ c κs. search needs)
-    (λ c. steps-end (c .before .before .before))
-    (λ c. sym (length-take-le _ _ (steps-end (c .before .before .before .before))))
+    (λ c κs. search needs)
+    (λ c κs. search needs)
+    (λ c. steps-end (c .before .before .before .before .before))
+    (λ c. sym (length-take-le _ _ (steps-end (c .before .before .before .before .before .before))))
     (λ c κs.
-    let start = c .before .before .before .before .before .before .before .before in
+    let start = c .before .before .before .before .before .before .before .before .before .before in
     let g = start .pre .0 in
-    let begins = c .before .before .begin .ensures in
-    let steps = c .before .before .before .before .put-steps .ensures in
-    (starts g begins _ (records g _ (put-front steps (omega (arith, steps-most (start .args .context .header .n) (sites g))))), omega (arith, ap length (whole g begins), start .pre .1)))
+    let numbers = c .before .before .before .fresh .ensures in
+    let store = c .before .before .empty .ensures in
+    let begins = c .before .before .before .before .begin .ensures in
+    let steps = c .before .before .before .before .before .before .put-steps .ensures in
+    (starts g numbers store begins _ (records g _ (put-front steps (omega (arith, steps-most (start .args .context .header .n) (sites g))))), omega (arith, ap length (whole g numbers store begins), start .pre .1)))
     (λ c. search needs)
     (λ c.
-    let start = c .before .before .before .before .before .before .before .before .before .before .before in
-    put-same (whole (start .pre .0) (c .before .before .before .before .before .begin .ensures)) (c .before .before .list .ensures)))
+    let start = c .before .before .before .before .before .before .before .before .before .before .before .before .before in
+    let all = c .before .before .before .before .before .before .before in
+    put-same (whole (start .pre .0) (c .before .before .before .before .before .before .fresh .ensures) (c .before .before .before .before .before .empty .ensures) (all .begin .ensures)) (c .before .before .list .ensures)))

@@ -62,10 +62,12 @@ loop-again c =
     let turn = c .before .before .before .before .loop in
     let n = c .before .before .before .before .before .before .args .n in
     let below = c .before .before .before .loop-test .taken in
-    let r = c .before .before .choice in
-    (omega (arith, below), ⊎-elim
-    (λ w. rw (w .6, w .7, w .5 .ensures, w .2 .ensures) (put-choice n (turn .inv .1) below (r .result) (r .ensures) (sym (c .before .in-range .ensures) ∙ w .0 .taken)))
-    (λ w. rw (w .1, w .2) (pass-choice n (turn .inv .1) below (r .result) (r .ensures) (sym (c .before .in-range .ensures) ∙ w .0 .left))) (c .if1 .came))
+    let r = c .before .before .choice in (
+      omega (arith, below),
+      ⊎-elim
+          (λ w. rw (w .6, w .7, w .5 .ensures, w .2 .ensures) (put-choice n (turn .inv .1) below (r .result) (r .ensures) (sym (c .before .in-range .ensures) ∙ w .0 .taken)))
+          (λ w. rw (w .1, w .2) (pass-choice n (turn .inv .1) below (r .result) (r .ensures) (sym (c .before .in-range .ensures) ∙ w .0 .left))) (c .if1 .came),
+    )
 
 -- src/lib.rt:48:1
 same-length : tie.Need-same-length Inv-loop μ-loop

@@ -1,0 +1,79 @@
+-- The line of a schedule byte by byte, and the lines of schedules one after another. Assumes nothing.
+use mathlib.Core.Path.{_≡_, refl, sym, ap, ap₂, subst, _∙_}
+use mathlib.Core.Bool.{Bool, true, false, cond}
+use mathlib.Core.List.{List, [], _∷_, _++_}
+use Prim.Native.Nat.{ℕ, zero, suc, _+_, _-_, _*_, _/_, _%_, _≤_, _<_}
+use native.Mathlib.Omega.{arith}
+use native.Mathlib.Nat.{add-zero}
+use native.Mathlib.Numerals.{add-one}
+use lib.ListN.{length, getD, set, take, drop, length-append, length-drop, length-set, drop-of-length-le}
+use lib.Seq.{sets, length-sets, drop-cons}
+use Rattle.number.specs.Refusal.{outOfRange}
+use Rattle.number.proofs.Lists.{sets-append}
+use Rattle.text.specs.Text.{digit, hexadecimal, refusalLine}
+use Rattle.text.specs.Put.{Put, each}
+use Rattle.print_sheet.specs.Lines.{separator, lineOf}
+
+-- three characters a byte
+pub line-long : (bytes : List ℕ) → length (lineOf bytes) ≡ 3 * length bytes
+unfolding lineOf
+line-long [] = refl
+line-long (b ∷ bytes) = omega (arith, line-long bytes)
+
+-- What holds while a line is put: before byte i
+pub record Lining (bytes out₀ : List ℕ) (place : ℕ) (out : List ℕ) (at i : ℕ) : Type 0 where
+  pub within : i ≤ length bytes
+  pub there : at ≡ place + 3 * i
+  pub same : length out ≡ length out₀
+  pub rest : sets out at (lineOf (drop i bytes)) ≡ sets out₀ place (lineOf bytes)
+
+pub line-begins : (bytes out : List ℕ) (place : ℕ) → Lining bytes out place out place 0
+line-begins bytes out place = record { within = omega arith; there = omega arith; same = refl; rest = refl }
+
+module _ {bytes out₀ : List ℕ} {place : ℕ} {out : List ℕ} {at i : ℕ} (g : Lining bytes out₀ place out at i) where
+  module _ (more : i < length bytes) (room : place + length (lineOf bytes) ≤ length out₀) where
+    abbrev b : ℕ
+    b = getD bytes i 0
+
+    pub one-byte : take (i + 1 - i) (drop i bytes) ≡ b ∷ []
+    one-byte =
+        let one : i + 1 - i ≡ 1 = omega arith in
+        ap₂ (λ (k : ℕ) (l : List ℕ). take k l) one (drop-cons bytes i 0 more)
+
+    pub digits : hexadecimal (take (i + 1 - i) (drop i bytes)) ≡ digit (b / 16) ∷ digit (b % 16) ∷ []
+    unfolding hexadecimal
+    digits = ap hexadecimal one-byte
+
+    pub fits : at + 3 ≤ length out
+    fits = omega (arith, line-long bytes, g .there, g .same, room, more)
+
+    -- one turn
+    pub line-next : {end : ℕ} {out′ : List ℕ} → Put out at (hexadecimal (take (i + 1 - i) (drop i bytes))) end out′ → (s : ℕ) → s ≡ separator (length bytes - (i + 1))
+        → Lining bytes out₀ place (set out′ end s) (end + 1) (i + 1)
+    unfolding lineOf
+    line-next {end} {out′} put s q =
+        let two : end ≡ at + 2 = put .ends ∙ ap (λ (l : List ℕ). at + length l) digits in
+        let left : length (drop (suc i) bytes) ≡ length bytes - (i + 1) = length-drop (suc i) bytes ∙ ap (λ k. length bytes - k) (sym (add-one i)) in
+        let first : lineOf (drop i bytes) ≡ digit (b / 16) ∷ digit (b % 16) ∷ separator (length (drop (suc i) bytes)) ∷ lineOf (drop (suc i) bytes) = ap lineOf (drop-cons bytes i 0 more) in
+        let stored : set out′ end s ≡ sets out at (digit (b / 16) ∷ digit (b % 16) ∷ separator (length (drop (suc i) bytes)) ∷ []) =
+        ap₂ (λ (l : List ℕ) (x : ℕ). set l end x) (put .leaves ∙ ap (sets out at) digits) (q ∙ ap separator (sym left)) ∙ ap (λ k. set (sets out at (digit (b / 16) ∷ digit (b % 16) ∷ [])) k (separator (length (drop (suc i) bytes)))) (two ∙ at-two) in
+        record {
+          within = omega (arith, more);
+          there = omega (arith, two, g .there);
+          same = ap length stored ∙ length-sets out at _ ∙ g .same;
+          rest =
+              ap₂ (λ (k : ℕ) (l : List ℕ). sets l (end + 1) (lineOf (drop k bytes))) (add-one i) stored
+              ∙ ap (λ k. sets (sets out at (digit (b / 16) ∷ digit (b % 16) ∷ separator (length (drop (suc i) bytes)) ∷ [])) k (lineOf (drop (suc i) bytes))) (let far : end + 1 ≡ at + 3 = omega (arith, two) in far)
+              ∙ sym (sets-append out at (digit (b / 16) ∷ digit (b % 16) ∷ separator (length (drop (suc i) bytes)) ∷ []) (lineOf (drop (suc i) bytes)))
+              ∙ ap (sets out at) (sym first)
+              ∙ g .rest;
+        }
+      where
+        at-two : at + 2 ≡ suc (suc at)
+        at-two = omega arith
+
+  pub line-done : length bytes ≤ i → Put out₀ place (lineOf bytes) at out
+  unfolding lineOf
+  line-done end =
+      let none : lineOf (drop i bytes) ≡ [] = ap lineOf (drop-of-length-le bytes end) in
+      record { ends = omega (arith, g .there, g .within, end, line-long bytes); leaves = ap (sets out at) (sym none) ∙ g .rest }
