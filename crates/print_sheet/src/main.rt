@@ -3,13 +3,14 @@ use exercises::LONGEST_SHEET;
 use libc::STDIN_FILENO;
 use libc::STDOUT_FILENO;
 use parts::schedule_end;
+use schedule::reader::byte_at;
 use sheet::write_sheet;
 use text::put_hexadecimal;
 use text::put_refusal;
 use writer::Written;
 ghost use mathlib.Core.Path.{_≡_};
 ghost use Prim.Native.Nat.{_+_, _*_, _≤_};
-ghost use lib.ListN.{length, getD, take};
+ghost use lib.ListN.{length, take};
 ghost use Rattle.schedule.specs.Record.{longest};
 ghost use Rattle.text.specs.Put.{Put, each};
 ghost use Rattle.parts.specs.Parts.{parts};
@@ -66,21 +67,15 @@ fn put_sheet(n: u32, votes: u32, k: u32, sheet: &mut [u8], text: &mut [u8]) -> u
     }
 }
 
-// A byte that was read, or 0 where the input ended before it.
-fn asked_at(asked: &[u8], i: usize) -> u32
-    ensures { λ x. ⌜ x ≡ getD (now (asked .entry)) i 0 ⌝ }
-{
-    if i < asked.len() { asked[i] as u32 } else { 0 }
-}
-
+// The text of the sheet that was asked for.
 fn put_asked(asked: &[u8], sheet: &mut [u8], text: &mut [u8]) -> usize
     requires { ⌜ (longestSheet ≤ length (now sheet)) × (longestText ≤ length (now text)) ⌝ }
     ensures { λ end. ⌜ (end ≤ length (now (text .exit))) × (take end (now (text .exit)) ≡ askedText (now (asked .entry))) ⌝ }
 {
     put_sheet(
-        asked_at(asked, 0),
-        asked_at(asked, 1),
-        asked_at(asked, 2),
+        byte_at(asked, 0),
+        byte_at(asked, 1),
+        byte_at(asked, 2),
         sheet,
         text,
     )

@@ -209,7 +209,7 @@ pub fn read_record(bytes: &[u8], before: Before) -> Read
 }
 
 // A byte as a number, 0 where there is none.
-fn byte_at(bytes: &[u8], i: usize) -> u32
+pub fn byte_at(bytes: &[u8], i: usize) -> u32
     ensures { λ k. ⌜ k ≡ getD (now (bytes .entry)) i 0 ⌝ }
 {
     if i < bytes.len() { bytes[i] as u32 } else { 0 }
