@@ -8,4 +8,4 @@ use Rattle.exercises.specs.Cases.{CasesHold}
 
 pub cases-hold : CasesHold
 unfolding flatten tabulate dueLists participantTo coordinatorTo participantCalls coordinatorCalls
-cases-hold = record { as-written = refl; one-site = refl; two-sites = refl; one-site-bytes = refl; two-sites-bytes = refl }
+cases-hold = record { as-written = refl; refusals = refl; one-site = refl; two-sites = refl; one-site-bytes = refl; two-sites-bytes = refl }
