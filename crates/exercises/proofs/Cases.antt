@@ -1,5 +1,5 @@
 -- The worked sheets of specs/Cases.antt, by computation. Assumes nothing.
-use mathlib.Core.Path.{_≡_, refl}
+use mathlib.Core.Path.{refl}
 use mathlib.Core.List.{flatten}
 use Rattle.number.specs.Table.{tabulate}
 use Rattle.rules.specs.Step.{participantTo, coordinatorTo, participantCalls, coordinatorCalls}

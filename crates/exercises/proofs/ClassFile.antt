@@ -11,7 +11,7 @@ use Rattle.parts.specs.Parts.{parts}
 use Rattle.figures.specs.Class.{Schedule, readClass, bytesOf, classBytes, AllSchedulesInRange}
 use Rattle.figures.proofs.Kept.{class-kept, parts-bytes}
 use Rattle.exercises.specs.Types.{Step, Header}
-use Rattle.exercises.specs.Sheet.{candidates, dueLists, sheet, sheetBytes, headerFor, inBounds}
+use Rattle.exercises.specs.Sheet.{candidates, dueLists, sheet, sheetBytes, headerFor}
 use Rattle.exercises.specs.Promises.{schedulesOf, IsClass, SheetIsClass}
 use Rattle.exercises.proofs.Lists.{All, map-map}
 use Rattle.exercises.proofs.DueLists.{Listed, lists-sound}

@@ -1,20 +1,19 @@
 -- Every sheet is sound, complete, in ascending order and has no schedule twice, over the bytes that the reader accepts. Assumes nothing.
-use mathlib.Core.Path.{_≡_, sym, subst}
-use mathlib.Core.Bool.{true, _&&_}
+use mathlib.Core.Path.{_≡_, subst}
+use mathlib.Core.Bool.{true}
 use mathlib.Core.List.{List, [], _∷_}
-use Prim.Native.Nat.{ℕ, _+_, _*_, _≤_, _<_}
+use Prim.Native.Nat.{ℕ, _*_, _≤_, _<_}
 use native.Mathlib.Omega.{arith}
 use native.Mathlib.Decide.{decLt}
 use lib.Dec.{leb, lit≤}
-use lib.ListN.{length, getD, length-append}
+use lib.ListN.{length, length-append}
 use borrow.Author.Tests.{leb-true}
 use Rattle.number.proofs.Laws.{and-left, and-right}
 use Rattle.schedule.specs.Record.{headerInRange, stepRecord, headerRecord, recordBytes, longest}
 use Rattle.schedule.specs.Schedule.{stepsBytes, scheduleBytes}
-use Rattle.schedule.proofs.Records.{front-length}
 use Rattle.schedule.proofs.RoundTrip.{steps-kept, bytes-kept, read-in-range, bytes-fit}
 use Rattle.passes.specs.Pass.{freshOf}
-use Rattle.exercises.specs.Types.{Step, Header, Release}
+use Rattle.exercises.specs.Types.{Step, Header}
 use Rattle.exercises.specs.Sheet.{candidates, dueLists, sheet, headerFor, inBounds, mostSites, mostSteps}
 use Rattle.exercises.specs.Promises.{Exercise, Below, at, SheetHolds, EverySheet}
 use Rattle.exercises.proofs.Lists.{All, Among, Ordered, all-map, all-at, all-through, among-map, place-of, ordered-map, ordered-at}

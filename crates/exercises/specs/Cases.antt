@@ -1,6 +1,6 @@
 -- Worked sheets: request 2026-08's own, and how many schedules and bytes each sheet has. One theorem covers the table: proofs/Cases.antt. Assumes nothing.
 use mathlib.Core.Path.{_≡_}
-use mathlib.Core.List.{List, [], _∷_, map}
+use mathlib.Core.List.{List, [], _∷_}
 use Prim.Native.Nat.{ℕ}
 use lib.ListN.{length}
 use Rattle.number.specs.Table.{tabulate}

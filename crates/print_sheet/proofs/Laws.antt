@@ -1,16 +1,13 @@
 -- The line of a schedule byte by byte, and the lines of schedules one after another. Assumes nothing.
-use mathlib.Core.Path.{_≡_, refl, sym, ap, ap₂, subst, _∙_}
-use mathlib.Core.Bool.{Bool, true, false, cond}
+use mathlib.Core.Path.{_≡_, refl, sym, ap, ap₂, _∙_}
 use mathlib.Core.List.{List, [], _∷_, _++_, flatten}
-use Prim.Native.Nat.{ℕ, zero, suc, _+_, _-_, _*_, _/_, _%_, _≤_, _<_}
+use Prim.Native.Nat.{ℕ, suc, _+_, _-_, _*_, _/_, _%_, _≤_, _<_}
 use native.Mathlib.Omega.{arith}
-use native.Mathlib.Nat.{add-zero}
 use native.Mathlib.Numerals.{add-one}
-use lib.ListN.{length, getD, set, take, drop, length-append, length-drop, length-set, drop-of-length-le}
+use lib.ListN.{length, getD, set, take, drop, length-append, length-drop, drop-of-length-le}
 use lib.Seq.{sets, length-sets, length-take-le, drop-cons, drop-drop}
-use Rattle.number.specs.Refusal.{outOfRange}
 use Rattle.number.proofs.Lists.{sets-append}
-use Rattle.text.specs.Text.{digit, hexadecimal, refusalLine}
+use Rattle.text.specs.Text.{digit, hexadecimal}
 use Rattle.text.specs.Put.{Put, each}
 use Rattle.parts.specs.Parts.{parts, partsUpTo, partLength}
 use Rattle.parts.proofs.Laws.{part-le, whole}

@@ -2,12 +2,11 @@
 use mathlib.Core.Path.{_≡_, refl, sym, ap, ap₂, _∙_}
 use mathlib.Core.Bool.{Bool, true, false, cond}
 use mathlib.Core.List.{List}
-use Prim.Native.Nat.{ℕ, _+_, _*_, _≤_, _<_}
+use Prim.Native.Nat.{ℕ, _≤_}
 use native.Mathlib.Omega.{arith}
 use lib.ListN.{length, take}
 use lib.Seq.{length-sets}
 use Rattle.number.specs.Refusal.{outOfRange}
-use Rattle.schedule.specs.Record.{longest}
 use Rattle.text.specs.Text.{refusalLine}
 use Rattle.text.specs.Put.{Put, each}
 use Rattle.text.proofs.Laws.{decimal-length, refusal-length}

@@ -3,12 +3,12 @@ use mathlib.Core.Path.{_≡_, refl, sym, ap, ap₂, subst, _∙_}
 use mathlib.Core.Logic.{_≢_}
 use mathlib.Core.Bool.{Bool, true, false, cond}
 use mathlib.Core.List.{List, [], _∷_, _++_, map, flatten, append-assoc, append-nil}
-use Prim.Native.Nat.{ℕ, zero, suc, _+_, _-_, _*_, _≤_, _<_}
+use Prim.Native.Nat.{ℕ, zero, suc, _+_, _-_, _≤_, _<_}
 use native.Mathlib.Omega.{arith}
 use native.Mathlib.Decide.{decLt}
 use native.Mathlib.Numerals.{add-one, sub-one}
 use lib.ListN.{length, getD, take, drop, length-drop, drop-of-length-le, List·getD-eq-default}
-use lib.Seq.{sets, drop-cons, drop-at, take-at, drop-drop}
+use lib.Seq.{drop-cons, drop-at, take-at, drop-drop}
 use Rattle.number.proofs.Table.{getD-tabulate}
 use Rattle.mask.specs.Mask.{full}
 use Rattle.store.specs.Log.{places}
@@ -17,7 +17,7 @@ use Rattle.text.proofs.Putting.{Putting, put-same, put-none, put-room, put-next
 use Rattle.kind.specs.Step.{inRange}
 use Rattle.kind.proofs.Numbers.{more-steps, kind-decoded}
 use Rattle.schedule.specs.Record.{headerInRange, stepRecord, recordLength, recordBytes}
-use Rattle.schedule.specs.Reader.{readerAnswers, stepAt, lengthAt}
+use Rattle.schedule.specs.Reader.{stepAt, lengthAt}
 use Rattle.schedule.specs.Schedule.{stepsBytes}
 use Rattle.schedule.proofs.Laws.{header-size}
 use Rattle.schedule.proofs.Records.{record-length, front-length, read-front, read-untested, step-follows}
@@ -28,7 +28,7 @@ use Rattle.rules.proofs.Actions.{not-due-stays}
 use Rattle.rules.proofs.Causes.{cause}
 use Rattle.rules.proofs.Counts.{one-call-more}
 use Rattle.rules.proofs.Room.{caused-room}
-use Rattle.state.specs.Fields.{fields, HasPlaces, nIn, countIn, releaseIn}
+use Rattle.state.specs.Fields.{fields, HasPlaces, countIn, releaseIn}
 use Rattle.state.proofs.Parts.{count-in}
 use Rattle.state.proofs.Filling.{step-places, release-in}
 use Rattle.call.specs.Steps.{Steps, CanCount}
@@ -38,7 +38,7 @@ use Rattle.exercises.proofs.Lists.{all-at, gather-gather, map-map, map-same}
 use Rattle.exercises.proofs.Candidates.{Ranged, candidates-ranged}
 use Rattle.exercises.proofs.Holds.{step-short}
 use Rattle.sheet.specs.Types.{Step, Header, Context, Before, Store, Release, Outcome, Report, Prefix}
-use Rattle.sheet.specs.Level.{longestExercise, textOf, Extends, goingOn, levelBytes, Reached}
+use Rattle.sheet.specs.Level.{textOf, Extends, goingOn, levelBytes, Reached}
 
 -- What a level goes on to
 

@@ -1,20 +1,18 @@
 -- The whole sheet: what the first level starts from, and what it goes on to. Assumes nothing.
 use mathlib.Core.Path.{_≡_, refl, sym, ap, ap₂, subst, _∙_}
-use mathlib.Core.Bool.{Bool, true, false, cond, _&&_}
-use mathlib.Core.List.{List, _++_, map, flatten}
-use Prim.Native.Nat.{ℕ, suc, _+_, _*_, _≤_, _<_}
+use mathlib.Core.Bool.{Bool, true, false, _&&_}
+use mathlib.Core.List.{List}
+use Prim.Native.Nat.{ℕ, suc, _≤_, _<_}
 use native.Mathlib.Omega.{arith}
 use lib.Dec.{leb}
 use lib.Seq.{length-sets}
-use lib.ListN.{length, getD, take}
+use lib.ListN.{length, getD}
 use Rattle.number.specs.Refusal.{outOfRange}
 use Rattle.number.proofs.Table.{getD-tabulate}
-use Rattle.mask.specs.Mask.{full}
 use Rattle.store.specs.Log.{places}
 use Rattle.text.specs.Put.{Put, each}
-use Rattle.text.proofs.Putting.{put-front}
 use Rattle.kind.specs.Kind.{bodyLength}
-use Rattle.schedule.specs.Record.{headerInRange, headerRecord, recordBytes}
+use Rattle.schedule.specs.Record.{headerInRange}
 use Rattle.schedule.specs.Schedule.{stepsBytes}
 use Rattle.schedule.specs.Context.{contextOf}
 use Rattle.schedule.proofs.Laws.{header-size}
@@ -23,7 +21,7 @@ use Rattle.writer.specs.Writer.{textAnswer, textLeft}
 use Rattle.state.specs.Fields.{fields, countIn, releaseIn}
 use Rattle.passes.specs.Pass.{freshOf}
 use Rattle.passes.proofs.Begun.{no-calls, fresh-back}
-use Rattle.exercises.specs.Sheet.{candidates, dueLists, sheetBytes, headerFor, inBounds, mostSites, mostSteps, sheetAnswers, sheetLeaves}
+use Rattle.exercises.specs.Sheet.{candidates, sheetBytes, headerFor, inBounds, mostSites, mostSteps, sheetAnswers, sheetLeaves}
 use Rattle.exercises.specs.Promises.{longestSheet}
 use Rattle.exercises.proofs.Holds.{Bounds, bounds}
 use Rattle.exercises.proofs.Fits.{sheet-fits}

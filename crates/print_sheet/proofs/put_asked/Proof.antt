@@ -1,5 +1,5 @@
 -- `print_sheet::put_asked` meets its contract: the sheet of the three bytes. Assumes nothing.
-use mathlib.Core.Path.{_≡_, ap, ap₂, _∙_}
+use mathlib.Core.Path.{ap, ap₂, _∙_}
 use lib.ListN.{getD}
 use borrow.Author.Needs.{needs}
 use Rattle.print_sheet.specs.Lines.{sheetText}

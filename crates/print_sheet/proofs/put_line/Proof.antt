@@ -1,8 +1,8 @@
 -- `print_sheet::put_line` meets its contract: byte by byte. Assumes nothing.
-use mathlib.Core.Path.{_≡_, ap, _∙_}
-use Prim.Native.Nat.{_+_, _-_}
+use mathlib.Core.Path.{ap}
+use Prim.Native.Nat.{_-_}
 use native.Mathlib.Omega.{arith}
-use lib.ListN.{length, length-set}
+use lib.ListN.{length}
 use borrow.Author.Needs.{needs}
 use Rattle.print_sheet.proofs.Laws.{Lining, line-begins, digits, fits, line-next, line-done}
 use Rattle.print_sheet.proofs.put_line.Statement.{statement}

@@ -1,5 +1,4 @@
 -- `print_sheet::put_lines` meets its contract: schedule by schedule. Assumes nothing.
-use mathlib.Core.Path.{_≡_}
 use Prim.Native.Nat.{_-_}
 use native.Mathlib.Omega.{arith}
 use lib.ListN.{length}

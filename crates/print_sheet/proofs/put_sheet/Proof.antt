@@ -1,9 +1,9 @@
 -- `print_sheet::put_sheet` meets its contract: the lines of the sheet that was written, or the refusal's. Assumes nothing.
-use mathlib.Core.Path.{_≡_, sym, _∙_}
+use mathlib.Core.Path.{sym, _∙_}
 use native.Mathlib.Omega.{arith}
 use lib.Seq.{length-take-le}
 use borrow.Author.Needs.{needs}
-use Rattle.print_sheet.proofs.Whole.{There, there, Outside, outside, sheet-short, lines-put, refusal-short, refusal-put}
+use Rattle.print_sheet.proofs.Whole.{there, outside, sheet-short, lines-put, refusal-short, refusal-put}
 use Rattle.print_sheet.proofs.put_sheet.Statement.{statement}
 use Rattle.print_sheet.proofs.put_sheet.Tie as tie
 
