@@ -2,6 +2,7 @@ pub mod Lists
 pub mod Order
 pub mod DueLists
 pub mod Candidates
+pub mod Reported
 pub mod Holds
 pub mod ClassFile
 pub mod Fits

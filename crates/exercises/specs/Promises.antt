@@ -1,7 +1,7 @@
 -- What is promised of every sheet, about the bytes that the reader accepts: sound, complete, ordered, each schedule once. Proved in proofs/. Assumes
 -- nothing.
 use mathlib.Core.Path.{_≡_}
-use mathlib.Core.Logic.{_⊎_}
+use mathlib.Core.Logic.{_≢_, _⊎_}
 use mathlib.Core.Bool.{true}
 use mathlib.Core.List.{List, [], _∷_, map}
 use Prim.Native.Nat.{ℕ, _≤_, _<_}
@@ -9,7 +9,7 @@ use lib.ListN.{length, getD}
 use Rattle.schedule.specs.Schedule.{Accepted, readSchedule}
 use Rattle.schedule.specs.RoundTrip.{AllBytes}
 use Rattle.rules.specs.Step.{step, isDue}
-use Rattle.passes.specs.Pass.{freshOf}
+use Rattle.passes.specs.Pass.{freshOf, stepBytes}
 use Rattle.parts.specs.Parts.{parts}
 use Rattle.figures.specs.Class.{Schedule, Class, readClass}
 use Rattle.exercises.specs.Types.{Step, Header, Release}
@@ -19,6 +19,16 @@ use Rattle.exercises.specs.Sheet.{candidates, dueLists, sheet, sheetByte
 abbrev pub AllDue : Release → List Step → Type 0
 AllDue r [] = Unit {0}
 AllDue r (s ∷ ss) = (isDue r s ≡ true) × AllDue (step r s .next) ss
+
+-- as the marker reports it: of steps that are due in turn no byte is 0, idle; and where no byte is, each is due in its turn
+
+abbrev pub NoneIdle : List ℕ → Type 0
+NoneIdle [] = Unit {0}
+NoneIdle (b ∷ bytes) = (b ≢ 0) × NoneIdle bytes
+
+pub record DueReported : Type 0 where
+  pub none-idle : (r : Release) (steps : List Step) → AllDue r steps → NoneIdle (stepBytes r steps)
+  pub all-due : (r : Release) (steps : List Step) → NoneIdle (stepBytes r steps) → AllDue r steps
 
 -- bytes that the reader accepts under that header, with exactly k steps, each due when its turn comes
 pub record Exercise (h : Header) (k : ℕ) (bytes : List ℕ) : Type 0 where

@@ -5,3 +5,5 @@ pub use Rattle.kind.specs.declared.Step.{Step}
 pub use Rattle.schedule.specs.declared.Header.{Header}
 pub use Rattle.writer.specs.declared.Written.{Written}
 pub use Rattle.rules.specs.declared.Release.{Release}
+pub use Rattle.rules.specs.declared.Outcome.{Outcome}
+pub use Rattle.rules.specs.declared.Report.{Report}

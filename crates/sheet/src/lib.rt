@@ -34,6 +34,7 @@ const LONGEST_STEPS: usize = 145;
 // Kinds 2 to 10 with first numbers 0 to 5 and second numbers 0 to 2 are so many choices. In this order they ascend.
 const CHOICES: u32 = 162;
 
+// The record of a choice, by its number.
 fn choice(c: u32) -> Record
     ensures { λ r. ⌜ r ≡ recordFor c ⌝ }
 {
