@@ -1,6 +1,6 @@
 -- A sheet is a class file: cut at its headers it gives back its schedules, and each is read to its steps. Assumes nothing.
 use mathlib.Core.Path.{_≡_, sym, ap, _∙_}
-use mathlib.Core.List.{List, [], _∷_, map, flatten}
+use mathlib.Core.List.{List, [], _∷_, map, flatten, map-map}
 use Prim.Native.Nat.{ℕ, _≤_, _<_}
 use native.Mathlib.Omega.{arith}
 use lib.ListN.{length, length-map}
@@ -13,7 +13,7 @@ use Rattle.figures.proofs.Kept.{class-kept, parts-bytes}
 use Rattle.exercises.specs.Types.{Step, Header}
 use Rattle.exercises.specs.Sheet.{candidates, dueLists, sheet, sheetBytes, headerFor}
 use Rattle.exercises.specs.Promises.{schedulesOf, IsClass, SheetIsClass}
-use Rattle.exercises.proofs.Lists.{All, map-map}
+use Rattle.exercises.proofs.Lists.{All}
 use Rattle.exercises.proofs.DueLists.{Listed, lists-sound}
 use Rattle.exercises.proofs.Candidates.{all-ranged}
 use Rattle.exercises.proofs.Holds.{Bounds, bounds}

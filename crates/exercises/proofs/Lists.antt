@@ -1,7 +1,7 @@
 -- Lists that are made part by part: what all elements have, which they are, and their order. Assumes nothing.
 use mathlib.Core.Path.{_≡_, refl, sym, ap, ap₂, _∙_}
 use mathlib.Core.Logic.{_⊎_, inl, inr, ⊎-elim}
-use mathlib.Core.List.{List, [], _∷_, _++_, map, flatten, append-assoc}
+use mathlib.Core.List.{List, [], _∷_, _++_, map, flatten, append-assoc, map-append}
 use Prim.Native.Nat.{ℕ, zero, suc, _<_}
 use native.Mathlib.Omega.{arith}
 use lib.ListN.{length, getD}
@@ -149,20 +149,12 @@ unfolding flatten
 flatten-append [] ms = refl
 flatten-append (l ∷ ls) ms = ap (λ w. l ++ w) (flatten-append ls ms) ∙ sym (append-assoc l (flatten ls) (flatten ms))
 
-pub map-append : {A B : Type 0} (f : A → B) (l m : List A) → map f (l ++ m) ≡ map f l ++ map f m
-map-append f [] m = refl
-map-append f (x ∷ l) m = ap (λ w. f x ∷ w) (map-append f l m)
-
 pub gather-gather : {A B C : Type 0} (f : B → List C) (g : A → List B) (l : List A)
     → flatten (map f (flatten (map g l))) ≡ flatten (map (λ x. flatten (map f (g x))) l)
 unfolding flatten
 gather-gather f g [] = refl
 gather-gather f g (x ∷ l) =
     ap flatten (map-append f (g x) (flatten (map g l))) ∙ flatten-append (map f (g x)) (map f (flatten (map g l))) ∙ ap (λ w. flatten (map f (g x)) ++ w) (gather-gather f g l)
-
-pub map-map : {A B C : Type 0} (f : B → C) (g : A → B) (l : List A) → map f (map g l) ≡ map (λ x. f (g x)) l
-map-map f g [] = refl
-map-map f g (x ∷ l) = ap (λ w. f (g x) ∷ w) (map-map f g l)
 
 pub map-same : {A B : Type 0} (f g : A → B) → ((x : A) → f x ≡ g x) → (l : List A) → map f l ≡ map g l
 map-same f g e [] = refl

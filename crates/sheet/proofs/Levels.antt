@@ -2,7 +2,7 @@
 use mathlib.Core.Path.{_≡_, refl, sym, ap, ap₂, subst, _∙_}
 use mathlib.Core.Logic.{_≢_}
 use mathlib.Core.Bool.{Bool, true, false, cond}
-use mathlib.Core.List.{List, [], _∷_, _++_, map, flatten, append-assoc, append-nil}
+use mathlib.Core.List.{List, [], _∷_, _++_, map, flatten, append-assoc, append-nil, map-map}
 use Prim.Native.Nat.{ℕ, zero, suc, _+_, _-_, _≤_, _<_}
 use native.Mathlib.Omega.{arith}
 use native.Mathlib.Decide.{decLt}
@@ -33,8 +33,9 @@ use Rattle.state.proofs.Parts.{count-in}
 use Rattle.state.proofs.Filling.{step-places, release-in}
 use Rattle.call.specs.Steps.{Steps, CanCount}
 use Rattle.passes.proofs.Begun.{in-places}
+use Rattle.passes.proofs.Reading.{tail-part}
 use Rattle.exercises.specs.Sheet.{candidates, ifDue, dueLists}
-use Rattle.exercises.proofs.Lists.{all-at, gather-gather, map-map, map-same}
+use Rattle.exercises.proofs.Lists.{all-at, gather-gather, map-same}
 use Rattle.exercises.proofs.Candidates.{Ranged, candidates-ranged}
 use Rattle.exercises.proofs.Holds.{step-short}
 use Rattle.sheet.specs.Types.{Step, Header, Context, Before, Store, Release, Outcome, Report, Prefix}
@@ -163,11 +164,13 @@ module _ {e : Prefix} {l : List ℕ} {store : Store} {steps : List ℕ} {c : Con
     first : drop p steps ≡ recordBytes (stepRecord tried) ++ stepsBytes later
     first = t .here ∙ ap stepsBytes (drop-cons all (t .index) Step.Start there)
 
-    pub step-here : stepAt (drop p steps) ≡ tried
-    step-here = ap stepAt first ∙ first-is (c .header) (g .header) tried ranged (stepsBytes later) .0
+    -- what the code takes from the rest of the records
 
-    pub size-here : lengthAt (drop p steps) ≡ recordLength (stepRecord tried)
-    size-here = ap lengthAt first ∙ first-is (c .header) (g .header) tried ranged (stepsBytes later) .1
+    pub step-here : stepAt (take (length steps - p) (drop p steps)) ≡ tried
+    step-here = ap stepAt (tail-part steps p ∙ first) ∙ first-is (c .header) (g .header) tried ranged (stepsBytes later) .0
+
+    pub size-here : lengthAt (take (length steps - p) (drop p steps)) ≡ recordLength (stepRecord tried)
+    size-here = ap lengthAt (tail-part steps p ∙ first) ∙ first-is (c .header) (g .header) tried ranged (stepsBytes later) .1
 
     added-here : take (recordLength (stepRecord tried)) (drop p steps) ≡ recordBytes (stepRecord tried)
     added-here = ap (take (recordLength (stepRecord tried))) first ∙ take-at (recordBytes (stepRecord tried)) (stepsBytes later) (recordLength (stepRecord tried)) (record-length (stepRecord tried))

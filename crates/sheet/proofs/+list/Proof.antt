@@ -1,6 +1,6 @@
 -- The cycle of calls {list} meets its contract: the measure is the number of steps left. What holds while they are tried stands in Levels. Assumes
 -- nothing.
-use mathlib.Core.Path.{sym, ap, _∙_}
+use mathlib.Core.Path.{sym, _∙_}
 use mathlib.Core.Logic.{_≢_, ⊎-elim}
 use Prim.Native.Nat.{ℕ, _+_, _-_, _<_}
 use native.Mathlib.Omega.{arith}
@@ -9,8 +9,6 @@ use lib.Seq.{length-take-le}
 use borrow.Author.Needs.{needs}
 use borrow.Fn.Kinds.{In}
 use borrow.Fn.PlainCycle.{Measures, is, falls, and}
-use Rattle.schedule.specs.Reader.{stepAt, lengthAt}
-use Rattle.passes.proofs.Reading.{tail-part}
 use Rattle.sheet.proofs.Levels.{Trying, begins, arrived, step-here, size-here, extends-here, fits, some-size, short, in-places-too, can-count, stayed, reaches, has-room, went, leaf-room, leaf-put}
 use Rattle.sheet.proofs.list.Reads as list
 use Rattle.sheet.proofs.list.Kinds as list-kinds
@@ -80,7 +78,7 @@ pub +list-spec : {M : Type 1} → statement M
     let turn = c .before .before .before .before .before .before .loop in
     let some = turn .inv .0 in
     let more = c .before .before .before .before .before .loop-test .taken in
-    let here = c .before .before .before .step-at .ensures ∙ ap stepAt (tail-part (start .args .steps .now) (turn .c)) ∙ step-here g some (turn .inv .1) more in
+    let here = c .before .before .before .step-at .ensures ∙ step-here g some (turn .inv .1) more in
     (rw here (in-places-too g some (turn .inv .1) more), can-count g some (turn .inv .1) more))
     (λ c κs. search needs)
     (λ c.
@@ -89,31 +87,17 @@ pub +list-spec : {M : Type 1} → statement M
     let turn = c .before .before .before .before .before .before .before .before .before .loop in
     let some = turn .inv .0 in
     let more = c .before .before .before .before .before .before .before .before .loop-test .taken in
-    let size = c .before .before .before .before .length-at .ensures ∙ ap lengthAt (tail-part (start .args .steps .now) (turn .c)) ∙ size-here g some (turn .inv .1) more in
+    let size = c .before .before .before .before .length-at .ensures ∙ size-here g some (turn .inv .1) more in
     omega (arith, size, fits g some (turn .inv .1) more))
+    (λ c. omega arith)
+    (λ c. search needs)
     (λ c.
     let start = c .before .before .before .before .before .before .before .before .before .before .before .before .before in
     let g = start .pre .1 .0 in
     let turn = c .before .before .before .before .before .before .before .before .before .loop in
     let some = turn .inv .0 in
     let more = c .before .before .before .before .before .before .before .before .loop-test .taken in
-    let size = c .before .before .before .before .length-at .ensures ∙ ap lengthAt (tail-part (start .args .steps .now) (turn .c)) ∙ size-here g some (turn .inv .1) more in
-    omega arith)
-    (λ c.
-    let start = c .before .before .before .before .before .before .before .before .before .before .before .before .before in
-    let g = start .pre .1 .0 in
-    let turn = c .before .before .before .before .before .before .before .before .before .loop in
-    let some = turn .inv .0 in
-    let more = c .before .before .before .before .before .before .before .before .loop-test .taken in
-    let size = c .before .before .before .before .length-at .ensures ∙ ap lengthAt (tail-part (start .args .steps .now) (turn .c)) ∙ size-here g some (turn .inv .1) more in
-    search needs)
-    (λ c.
-    let start = c .before .before .before .before .before .before .before .before .before .before .before .before .before in
-    let g = start .pre .1 .0 in
-    let turn = c .before .before .before .before .before .before .before .before .before .loop in
-    let some = turn .inv .0 in
-    let more = c .before .before .before .before .before .before .before .before .loop-test .taken in
-    let size = c .before .before .before .before .length-at .ensures ∙ ap lengthAt (tail-part (start .args .steps .now) (turn .c)) ∙ size-here g some (turn .inv .1) more in
+    let size = c .before .before .before .before .length-at .ensures ∙ size-here g some (turn .inv .1) more in
     omega (arith, size, fits g some (turn .inv .1) more))
     (λ c κs.
     let start = c .before .before .before .before .before .before .before .before .before .before .before .before .before .before in
@@ -121,7 +105,7 @@ pub +list-spec : {M : Type 1} → statement M
     let turn = c .before .before .before .before .before .before .before .before .before .before .loop in
     let some = turn .inv .0 in
     let more = c .before .before .before .before .before .before .before .before .before .loop-test .taken in
-    let size = c .before .before .before .before .before .length-at .ensures ∙ ap lengthAt (tail-part (start .args .steps .now) (turn .c)) ∙ size-here g some (turn .inv .1) more in
+    let size = c .before .before .before .before .before .length-at .ensures ∙ size-here g some (turn .inv .1) more in
     (g .size, omega (arith, g .short, short g some (turn .inv .1) more, size, length-take-le (turn .c + c .before .before .before .before .before .length-at .result - turn .c) (drop (turn .c) (start .args .steps .now)) (omega (arith, size, fits g some (turn .inv .1) more, length-drop (turn .c) (start .args .steps .now))), some)))
     (λ c. let some = c .before .before .before .before .before .before .before .before .before .before .before .before .loop .inv .0 in omega (arith, some))
     (λ c κs.
@@ -130,8 +114,8 @@ pub +list-spec : {M : Type 1} → statement M
     let turn = c .before .before .before .before .before .before .before .before .before .before .before .before .loop in
     let some = turn .inv .0 in
     let more = c .before .before .before .before .before .before .before .before .before .before .before .loop-test .taken in
-    let size = c .before .before .before .before .before .before .before .length-at .ensures ∙ ap lengthAt (tail-part (start .args .steps .now) (turn .c)) ∙ size-here g some (turn .inv .1) more in
-    let here = c .before .before .before .before .before .before .before .before .before .step-at .ensures ∙ ap stepAt (tail-part (start .args .steps .now) (turn .c)) ∙ step-here g some (turn .inv .1) more in
+    let size = c .before .before .before .before .before .before .before .length-at .ensures ∙ size-here g some (turn .inv .1) more in
+    let here = c .before .before .before .before .before .before .before .before .before .step-at .ensures ∙ step-here g some (turn .inv .1) more in
     let leads = rw here at (c .before .before .before .before .before .step .ensures) in
     let due = sym (c .before .before .before .before .moves .ensures) ∙ c .before .before .before .if2 .taken in
     let next = extends-here g some (turn .inv .1) more _ size (c .before .with-step .ensures) in
@@ -142,7 +126,7 @@ pub +list-spec : {M : Type 1} → statement M
     let turn = c .before .before .before .before .before .before .before .before .before .loop in
     let some = turn .inv .0 in
     let more = c .before .before .before .before .before .before .before .before .loop-test .taken in
-    let size = c .before .before .before .before .length-at .ensures ∙ ap lengthAt (tail-part (start .args .steps .now) (turn .c)) ∙ size-here g some (turn .inv .1) more in
+    let size = c .before .before .before .before .length-at .ensures ∙ size-here g some (turn .inv .1) more in
     omega (arith, size, fits g some (turn .inv .1) more))
     (λ c.
     let start = c .before .before .before .before .before .before .before .before .before .before .before .before .before in
@@ -150,7 +134,7 @@ pub +list-spec : {M : Type 1} → statement M
     let turn = c .before .before .before .before .before .before .before .before .before .loop in
     let some = turn .inv .0 in
     let more = c .before .before .before .before .before .before .before .before .loop-test .taken in
-    let size = c .before .before .before .before .length-at .ensures ∙ ap lengthAt (tail-part (start .args .steps .now) (turn .c)) ∙ size-here g some (turn .inv .1) more in
+    let size = c .before .before .before .before .length-at .ensures ∙ size-here g some (turn .inv .1) more in
     omega (arith, size, fits g some (turn .inv .1) more, some-size g some (turn .inv .1) more))
     (λ c.
     let start = c .before .before .before .before .before .before .before .before .before .before .before .before .before in
@@ -158,8 +142,8 @@ pub +list-spec : {M : Type 1} → statement M
     let turn = c .before .before .before .before .before .before .before .before .before .loop in
     let some = turn .inv .0 in
     let more = c .before .before .before .before .before .before .before .before .loop-test .taken in
-    let size = c .before .before .before .before .length-at .ensures ∙ ap lengthAt (tail-part (start .args .steps .now) (turn .c)) ∙ size-here g some (turn .inv .1) more in
-    let here = c .before .before .before .before .before .before .step-at .ensures ∙ ap stepAt (tail-part (start .args .steps .now) (turn .c)) ∙ step-here g some (turn .inv .1) more in
+    let size = c .before .before .before .before .length-at .ensures ∙ size-here g some (turn .inv .1) more in
+    let here = c .before .before .before .before .before .before .step-at .ensures ∙ step-here g some (turn .inv .1) more in
     let leads = rw here at (c .before .before .step .ensures) in
     (some, ⊎-elim (λ w. rw (w .7, w .8, w .9, size) (went g some (turn .inv .1) more leads (sym (c .before .moves .ensures) ∙ w .0 .taken) (extends-here g some (turn .inv .1) more _ size (w .2 .ensures)) (w .4 .ensures))) (λ w. rw (w .1, w .2, w .3, size) (stayed g some (turn .inv .1) more leads (sym (c .before .moves .ensures) ∙ w .0 .left))) (c .if2 .came)))
     (λ c. c .before .loop .inv .1 .putting .same)
