@@ -2,6 +2,8 @@
 // contract says what this is for the release that they represent. `i` and `j` are places, which count from 0; `p` is the number of a party; `all`
 // is the mask of all participants; `heard` says whether the answer is heard. What a party does is worked out on the log that it calls alone: the
 // store is put together once, at the end.
+#![tactic(auto)]
+
 ghost use Rattle.std.specs.Prelude.{◌≡◌, ℕ, suc, ◌≤◌, ◌<◌};
 ghost use Rattle.store.specs.Log.{places};
 ghost use Rattle.rules.specs.Report.{closes};
@@ -17,7 +19,7 @@ use state::{FIELDS, coordinator, count_call, participant_at};
 use store::{LogPair, Logged, Performed, Store};
 
 // What a step reports, whether it closed another's log, and the store after it.
-#[derive(Drop)]
+#[derive(Clone, Copy)]
 pub struct Stepped {
     pub outcome: Outcome,
     pub closed: bool,
@@ -45,7 +47,7 @@ fn closes(p: u32, j: u32, l: Logged) -> bool
 }
 
 // What a call reports, whether it closed another's log, and its log after it.
-#[derive(Drop)]
+#[derive(Clone, Copy)]
 struct Called {
     outcome: Outcome,
     closed: bool,

@@ -1,4 +1,6 @@
 // Prints the summary of the class file on standard input.
+#![tactic(auto)]
+
 ghost use Rattle.std.specs.Prelude.{◌≡◌, ◌≤◌, ◌<◌, length, take};
 ghost use Rattle.schedule.specs.Record.{longest};
 ghost use Rattle.summary.specs.Summary.{summary, longest_summary};

@@ -1,4 +1,6 @@
 // The coordinator. `all` is the mask of all participants, `i` the place of the participant that replies, `j` the place of a log.
+#![tactic(auto)]
+
 ghost use Rattle.std.specs.Prelude.{◌≡◌, ◌<◌};
 ghost use Rattle.coordinator.specs.Coordinator.{state_number, heard_of, of_numbers, is_coordinator, heard_in_range, in_range, numbers_in_range, to, enters, on_start, unless_full, on_reply_yes, on_reply_abort, on_timeout, pending, on_heard, on_answer, on_crash, on_restart};
 
@@ -6,7 +8,7 @@ use message::{Message, Sent};
 use store::{Call, LogRecord};
 
 // The coordinator in its state. Waiting and terminating, it has the mask of the participants heard.
-#[derive(Drop)]
+#[derive(Clone, Copy)]
 pub enum Coordinator {
     Idle,
     Waiting(u32),
@@ -18,7 +20,7 @@ pub enum Coordinator {
 }
 
 // What an event leads to. What it sends goes to all participants.
-#[derive(Drop)]
+#[derive(Clone, Copy)]
 pub enum Transition {
     NotDue,
     To(Coordinator, Sent),

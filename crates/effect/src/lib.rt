@@ -1,6 +1,8 @@
 // What messages and transitions do to a release, and what that reports: `fields` are its numbers, and those of the parts that are named change in
 // place. A contract says what this is for the release that they represent. `i` is a place, which counts from 0; `all` is the mask
 // of all its participants.
+#![tactic(auto)]
+
 pub mod outcome;
 
 ghost use Rattle.std.specs.Prelude.{◌≡◌, ◌<◌};

@@ -1,4 +1,6 @@
 // Events of the host's participant, by document 01's numbers.
+#![tactic(auto)]
+
 ghost use Rattle.std.specs.Prelude.{◌≡◌};
 ghost use Rattle.event.specs.Event.{vote_number, decision_number, decision_of, event_number, detail_number, answer_number, event_of, is_event, is_written, event_in_range, numbers_in_range};
 
@@ -8,7 +10,7 @@ use store::LogRecord;
 
 // What happens to a participant: a vote request, with its own vote; the coordinator's decision; a timeout, a crash or a restart; the answer of
 // a log, by its number.
-#[derive(Drop)]
+#[derive(Clone, Copy)]
 pub enum Event {
     Request(bool),
     Decided(Decision),

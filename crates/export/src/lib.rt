@@ -1,4 +1,6 @@
 // The public entries as C functions on bytes and numbers, for the comparison with the second program. Not part of the product's interface.
+#![tactic(auto)]
+
 pub mod from;
 pub mod single;
 

@@ -1,4 +1,6 @@
 // The form of a tail: how many participants have fields, and how many bytes a mask has; where its parts begin, and how long it is.
+#![tactic(auto)]
+
 ghost use Rattle.std.specs.Prelude.{◌≡◌};
 ghost use Rattle.form.specs.Form.{form_of, FormFits, heard_at, messages_at, participants_at, participant_length, counts_at, tail_length};
 
@@ -15,7 +17,7 @@ pub const COUNT_WIDTH: usize = 2;
 pub const TAIL: usize = 320;
 
 // How many participants have fields in a tail, and how many bytes a mask has.
-#[derive(Drop)]
+#[derive(Clone, Copy)]
 pub struct Form {
     pub places: usize,
     pub width: usize,

@@ -1,4 +1,6 @@
 // Many schedules, one after the other: each comes in a frame, and its report goes out as a line.
+#![tactic(auto)]
+
 ghost use Rattle.std.specs.Prelude.{◌≡◌, ◌+◌, ◌≤◌, ◌<◌, length};
 ghost use Rattle.text.specs.Put.{Put};
 ghost use Rattle.marker.specs.Run.{run_leaves};
@@ -18,14 +20,14 @@ pub const LINE: usize = 2 * REPORT + 1;
 pub const FRAME: usize = 2 + 65535;
 
 // The length of the schedule in a frame; or not all of the frame is there.
-#[derive(Drop)]
+#[derive(Clone, Copy)]
 pub enum Frame {
     Whole(usize),
     Incomplete,
 }
 
 // How many bytes of the input are marked, and how many of the text are filled.
-#[derive(Drop)]
+#[derive(Clone, Copy)]
 pub struct Marked {
     pub used: usize,
     pub filled: usize,

@@ -1,5 +1,7 @@
 // The host's entry: one participant, stepped from C on document 01's numbers. `own` is a participant's number; `place` is that less one;
 // `all` is the mask of all participants.
+#![tactic(auto)]
+
 ghost use Rattle.std.specs.Prelude.{◌≡◌, true, ◌≤◌, ◌<◌, length};
 ghost use Rattle.mask.specs.Mask.{full};
 ghost use Rattle.event.specs.Event.{event_in_range};

@@ -1,4 +1,6 @@
 // What a schedule is made of: kinds with the length of their body, and steps with their numbers.
+#![tactic(auto)]
+
 ghost use Rattle.std.specs.Prelude.{◌≡◌};
 ghost use Rattle.kind.specs.Kind.{kind_number, kind_of, first_width, second_width, body_length, is_header, room};
 ghost use Rattle.kind.specs.Step.{of_kind, number_in_range, names_message, names_party, names_place, least_first, greatest_first, least_second, greatest_second, first_in_range, second_in_range, numbers_in_range};
@@ -6,7 +8,7 @@ ghost use Rattle.kind.specs.Step.{of_kind, number_in_range, names_message, names
 use message::Message;
 
 // The kind of a record.
-#[derive(Drop)]
+#[derive(Clone, Copy)]
 pub enum Kind {
     Header,
     Start,
@@ -22,7 +24,7 @@ pub enum Kind {
 }
 
 // A step, by its kind. A message goes by its type and participant, a call by its party and log; participants, parties and logs are numbers.
-#[derive(Drop)]
+#[derive(Clone, Copy)]
 pub enum Step {
     Start,
     Deliver(Message, u32),

@@ -1,5 +1,7 @@
 // The layout of the tail, in each of its forms, put from the numbers of a release and its store. Each function puts its bytes at a place that has
 // room for them, and answers the place after them.
+#![tactic(auto)]
+
 pub mod read;
 
 ghost use Rattle.std.specs.Prelude.{suc, ◌+◌, ◌*◌, ◌≤◌, length, take};

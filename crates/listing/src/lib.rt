@@ -1,4 +1,6 @@
 // The listing of a schedule, or of steps that go on from a tail, in a lent text: a line a step, the counts of calls and the logs; or the refusal.
+#![tactic(auto)]
+
 ghost use Rattle.std.specs.Prelude.{◌≡◌, ◌++◌, ◌+◌, ◌≤◌, length};
 ghost use Rattle.text.specs.Put.{Put};
 ghost use Rattle.text.specs.Text.{refusal_line};

@@ -1,4 +1,6 @@
 // Marks the schedule on standard input and prints its listing.
+#![tactic(auto)]
+
 ghost use Rattle.std.specs.Prelude.{◌≡◌, ◌≤◌, ◌<◌, length, take};
 ghost use Rattle.schedule.specs.Record.{longest};
 ghost use Rattle.listing.specs.Listing.{listing, longest_text};

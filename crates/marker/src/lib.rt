@@ -1,4 +1,6 @@
 // The marker: a schedule in, its report out; or the steps that go on from a tail.
+#![tactic(auto)]
+
 ghost use Rattle.std.specs.Prelude.{◌≡◌, length};
 ghost use Rattle.writer.specs.Writer.{written_hands};
 ghost use Rattle.state.specs.Fields.{release_in};

@@ -1,5 +1,7 @@
 // Sets of participants as numbers of 32 bits: participant p is a member where bit p - 1 is set, so a mask holds participants 1 to 32.
 // Every function takes a place, a participant's number less one.
+#![tactic(auto)]
+
 ghost use Rattle.std.specs.Prelude.{◌≡◌, ◌≤◌, ◌<◌, leb};
 ghost use Rattle.mask.specs.Mask.{has, insert, remove, full};
 

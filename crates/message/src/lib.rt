@@ -1,9 +1,11 @@
 // Messages between the coordinator and the participants, and the decision that they come to.
+#![tactic(auto)]
+
 ghost use Rattle.std.specs.Prelude.{◌≡◌};
 ghost use Rattle.message.specs.Message.{type_number, message_of, sent_number};
 
 // A message's type.
-#[derive(Drop)]
+#[derive(Clone, Copy)]
 pub enum Message {
     Request,
     ReplyYes,
@@ -41,7 +43,7 @@ impl Message {
 }
 
 // What a party sends in a step: a participant its reply, the coordinator the same to all.
-#[derive(Drop)]
+#[derive(Clone, Copy)]
 pub enum Sent {
     Nothing,
     Sends(Message),
@@ -60,7 +62,7 @@ impl Sent {
 }
 
 // What a release comes to.
-#[derive(Drop)]
+#[derive(Clone, Copy)]
 pub enum Decision {
     Commit,
     Abort,

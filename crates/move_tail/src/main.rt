@@ -1,4 +1,6 @@
 // Moves the tail on standard input: prints the tail of 320 bytes that holds the same state, in hexadecimal, or the refusal.
+#![tactic(auto)]
+
 ghost use Rattle.std.specs.Prelude.{◌≡◌, ◌≤◌, ◌<◌, length, take};
 ghost use Rattle.form.specs.Form.{narrow, wide, tail_length};
 ghost use Rattle.move_tail.specs.Line.{moved_line, longest_line};

@@ -1,4 +1,6 @@
 // Document 01's numbers for refusals. How an enum goes to its number and back stands in specs/Numbering.antt.
+#![tactic(auto)]
+
 pub mod low;
 
 pub const EMPTY_OR_TOO_LONG: u32 = 1;

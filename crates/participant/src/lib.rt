@@ -1,4 +1,6 @@
 // The participant. `all` is the mask of all participants, `own` its place, its number less one, and `j` the place of a log.
+#![tactic(auto)]
+
 ghost use Rattle.std.specs.Prelude.{◌≡◌, ◌<◌};
 ghost use Rattle.participant.specs.Participant.{state_number, heard_of, of_numbers, is_participant, heard_in_range, in_range, numbers_in_range, to, on_request, recording, on_decision, own_call, other_call, pending, terminating, on_vote, on_close, on_heard, on_commit_recorded, on_abort_recorded, on_answer, on_timeout, on_crash, on_restart};
 
@@ -6,7 +8,7 @@ use message::{Decision, Message, Sent};
 use store::{Call, LogRecord};
 
 // A participant in its state. Terminating, it has the mask of the participants heard.
-#[derive(Drop)]
+#[derive(Clone, Copy)]
 pub enum Participant {
     Waiting,
     VotingYes,
@@ -21,7 +23,7 @@ pub enum Participant {
 }
 
 // What an event leads to.
-#[derive(Drop)]
+#[derive(Clone, Copy)]
 pub enum Transition {
     NotDue,
     To(Participant, Sent),

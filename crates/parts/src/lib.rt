@@ -1,4 +1,6 @@
 // The schedules of a class file: a header inside it begins the next one.
+#![tactic(auto)]
+
 ghost use Rattle.std.specs.Prelude.{◌≡◌, ◌+◌, ◌≤◌, ◌<◌, length, drop};
 ghost use Rattle.kind.specs.Kind.{kind_of, is_header};
 ghost use Rattle.schedule.specs.Record.{longest};

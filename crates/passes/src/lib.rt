@@ -1,5 +1,7 @@
 // The two passes over a schedule: the first validates from the left and counts, so that a refusal touches nothing; the second steps and writes a
 // byte a step.
+#![tactic(auto)]
+
 ghost use Rattle.std.specs.Prelude.{◌≡◌, ◌≤◌, length};
 ghost use Rattle.schedule.specs.Record.{header_record, record_length, longest};
 ghost use Rattle.schedule.specs.Context.{context_of};
@@ -17,7 +19,7 @@ use state::FIELDS;
 use store::Store;
 
 // A schedule's header, with the mask of all participants that was worked out there, and how many steps it has; or a refusal's number and place.
-#[derive(Drop)]
+#[derive(Clone, Copy)]
 pub enum Validated {
     Steps(Context, usize),
     Refused(u32, usize),

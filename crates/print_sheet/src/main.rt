@@ -1,4 +1,6 @@
 // Prints a sheet: a line for each schedule, its bytes in hexadecimal. Standard input has n, the vote mask and k, a byte each.
+#![tactic(auto)]
+
 ghost use Rattle.std.specs.Prelude.{◌≡◌, ◌+◌, ◌*◌, ◌≤◌, length, take};
 ghost use Rattle.schedule.specs.Record.{longest};
 ghost use Rattle.text.specs.Put.{Put, each};

@@ -1,6 +1,8 @@
 // One step of a release, by its kind. What it computes is `step` of the crate `rules`: `fields` are the release's numbers, which change in place, and
 // the store goes by value into and out of a step that makes a store call. `i` is a place, which counts from 0; `p` is the number of a party; `all`
 // is the mask of all participants.
+#![tactic(auto)]
+
 ghost use Rattle.std.specs.Prelude.{◌≡◌, true, false, suc, ◌≤◌, ◌<◌};
 ghost use Rattle.store.specs.Log.{places};
 ghost use Rattle.kind.specs.Step.{in_range};

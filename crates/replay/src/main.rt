@@ -1,5 +1,7 @@
 // Marks many schedules: standard input is a sequence of frames, and for each there is a line on standard output. The memory is fixed: what is read
 // is marked as far as its frames are whole, and the rest is kept for the next reading.
+#![tactic(auto)]
+
 ghost use Rattle.std.specs.Prelude.{◌≡◌, ◌+◌, ◌-◌, ◌≤◌, ◌<◌, length, take, drop};
 ghost use Rattle.frame.specs.Frame.{LinesOf, FramesThen, longest_report, longest_line, longest_frame};
 

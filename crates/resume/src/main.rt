@@ -1,4 +1,6 @@
 // Goes on from a tail: reads the tail in a frame and then steps, and prints their listing and a line with the tail after them.
+#![tactic(auto)]
+
 ghost use Rattle.std.specs.Prelude.{◌≡◌, ◌+◌, ◌≤◌, ◌<◌, length, take};
 ghost use Rattle.text.specs.Put.{Put};
 ghost use Rattle.schedule.specs.Record.{longest};

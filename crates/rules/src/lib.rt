@@ -1,5 +1,7 @@
 // What the rules of one release speak of: its parties, their logs and the messages in flight, and what a step reports. The rules stand in
 // specs/, demand 3 among them.
+#![tactic(auto)]
+
 use coordinator::Coordinator;
 use participant::Participant;
 use store::{LOGS, Store};
@@ -11,14 +13,14 @@ pub const TYPES: usize = 5;
 pub const PARTIES: usize = LOGS + 1;
 
 // A participant at its place in a release.
-#[derive(Drop)]
+#[derive(Clone, Copy)]
 pub struct Site {
     pub participant: Participant,
 }
 
 // The whole state of a release. Message type t has its mask at t - 1, participant p its place at p - 1, and party p its count of due store
 // calls at p.
-#[derive(Drop)]
+#[derive(Clone, Copy)]
 pub struct Release {
     pub n: u32,
     pub votes: u32,
@@ -33,7 +35,7 @@ pub struct Release {
 pub const CLOSED: u8 = 4;
 
 // What a step reports.
-#[derive(Drop)]
+#[derive(Clone, Copy)]
 pub enum Outcome {
     Idle,
     Moved,
@@ -42,7 +44,7 @@ pub enum Outcome {
 }
 
 // A step's outcome, whether it closed another's log, and the release after it.
-#[derive(Drop)]
+#[derive(Clone, Copy)]
 pub struct Report {
     pub outcome: Outcome,
     pub closed: bool,

@@ -1,4 +1,6 @@
 // A schedule as bytes: headers, records and their ranges. The reader takes one record from bytes.
+#![tactic(auto)]
+
 pub mod reader;
 
 ghost use Rattle.std.specs.Prelude.{◌≡◌};
@@ -11,7 +13,7 @@ use kind::{Kind, between};
 pub const LONGEST: usize = 32768;
 
 // The header of a schedule: its kind, n and the vote mask.
-#[derive(Drop)]
+#[derive(Clone, Copy)]
 pub struct Header {
     pub kind: Kind,
     pub n: u32,
@@ -19,14 +21,14 @@ pub struct Header {
 }
 
 // A header that records are read under, with the mask of all its participants: that is worked out once, and handed on to each record and step.
-#[derive(Drop)]
+#[derive(Clone, Copy)]
 pub struct Context {
     pub header: Header,
     pub all: u32,
 }
 
 // A record: its kind and the two numbers of its body, 0 where the body has none.
-#[derive(Drop)]
+#[derive(Clone, Copy)]
 pub struct Record {
     pub kind: Kind,
     pub first: u32,

@@ -14,14 +14,14 @@ use number::{
 };
 
 // The header that came before a record, or none.
-#[derive(Drop)]
+#[derive(Clone, Copy)]
 pub enum Before {
     Nothing,
     Header(Header),
 }
 
 // A record with its length, or a refusal's number with the place of the record's first byte.
-#[derive(Drop)]
+#[derive(Clone, Copy)]
 pub enum Read {
     Record(Record, usize),
     Refused(u32, usize),
@@ -40,7 +40,7 @@ impl Read {
 }
 
 // What a schedule begins with: its header, with the mask of all participants; or a refusal's number.
-#[derive(Drop)]
+#[derive(Clone, Copy)]
 pub enum First {
     Header(Context),
     Refused(u32),
@@ -63,7 +63,7 @@ impl First {
 }
 
 // The kind of a record, where all of its body is there; or a refusal's number.
-#[derive(Drop)]
+#[derive(Clone, Copy)]
 enum Found {
     Known(Kind),
     Refused(u32),

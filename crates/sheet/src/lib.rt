@@ -1,4 +1,6 @@
 // The code of a sheet: all schedules of a few steps, each due when its turn comes, in ascending order of their bytes.
+#![tactic(auto)]
+
 ghost use Rattle.std.specs.Prelude.{◌≡◌, ◌+◌, ◌≤◌, length};
 ghost use Rattle.text.specs.Put.{Put, each};
 ghost use Rattle.writer.specs.Writer.{written_hands};
@@ -56,7 +58,7 @@ fn put_steps(out: &mut [u8], n: u32) -> usize
 }
 
 // The first bytes of a schedule.
-#[derive(Drop)]
+#[derive(Clone, Copy)]
 pub struct Prefix {
     pub bytes: [u8; LONGEST_EXERCISE],
     pub len: usize,

@@ -1,4 +1,6 @@
 // The tail that a run starts from, and the move of a tail of 59 bytes into the form of 320.
+#![tactic(auto)]
+
 ghost use Rattle.std.specs.Prelude.{◌≡◌, length};
 ghost use Rattle.number.specs.Refusal.{accepted};
 ghost use Rattle.schedule.specs.Context.{context_of};
@@ -26,7 +28,7 @@ const START_LIMIT: u16 = 54001;
 
 // A tail that was read: what refuses it, or 0. Where nothing does, the header that its n and votes are of, with the mask of all participants, and its
 // release as numbers and store.
-#[derive(Drop)]
+#[derive(Clone, Copy)]
 pub struct Start {
     pub refusal: u32,
     pub context: Context,

@@ -1,6 +1,8 @@
 // The state of a release but for its store, as an array of numbers that a run changes in place: n and votes, the coordinator's state and heard mask,
 // a mask for each type of message; then every participant's state, every heard mask; then every party's count of calls. `i` is the place of a
 // participant, which counts from 0.
+#![tactic(auto)]
+
 ghost use Rattle.std.specs.Prelude.{◌≡◌, suc, ◌+◌, ◌<◌, get_or};
 ghost use Rattle.store.specs.Log.{places};
 ghost use Rattle.rules.specs.Run.{count_limit};

@@ -1,5 +1,7 @@
 // The steps of document 01's case P1, one by one through the single step, and two that it refuses. A line for each: the number returned and the
 // report byte. Then the logs of both participants, first and last record, and the counts of calls.
+#![tactic(auto)]
+
 use libc::STDOUT_FILENO;
 use rules::{PARTIES, TYPES};
 use store::LOGS;

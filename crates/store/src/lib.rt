@@ -1,4 +1,6 @@
 // The store: write-once logs, the calls LogOnce and Log, and the two log entries.
+#![tactic(auto)]
+
 ghost use Rattle.std.specs.Prelude.{◌≡◌, get_or, set, replicate};
 ghost use Rattle.store.specs.Log.{record_number, record_of, is_record, empty, places, is_allowed, same_records, log_once, replaces, log, perform, wrote_abort};
 ghost use Rattle.store.specs.Entry.{handed, log_once_entry, log_hands, log_entry};
@@ -7,7 +9,7 @@ ghost use Rattle.store.specs.Entry.{handed, log_once_entry, log_hands, log_entry
 pub const LOGS: usize = 32;
 
 // A log record.
-#[derive(Drop)]
+#[derive(Clone, Copy)]
 pub enum LogRecord {
     None,
     Yes,
@@ -16,20 +18,20 @@ pub enum LogRecord {
 }
 
 // A log: its first and its last record.
-#[derive(Drop)]
+#[derive(Clone, Copy)]
 pub struct LogPair {
     pub first: LogRecord,
     pub last: LogRecord,
 }
 
 // The logs of all participants, participant p's at p - 1.
-#[derive(Drop)]
+#[derive(Clone, Copy)]
 pub struct Store {
     pub logs: [LogPair; LOGS],
 }
 
 // What a party asks of a log, if anything.
-#[derive(Drop)]
+#[derive(Clone, Copy)]
 pub enum Call {
     None,
     LogOnce(LogRecord),
@@ -37,7 +39,7 @@ pub enum Call {
 }
 
 // What a call leaves: its answer, whether it wrote the first record, and the log afterwards.
-#[derive(Drop)]
+#[derive(Clone, Copy)]
 pub struct Logged {
     pub answer: LogRecord,
     pub wrote: bool,
@@ -45,14 +47,14 @@ pub struct Logged {
 }
 
 // What the store makes of a call.
-#[derive(Drop)]
+#[derive(Clone, Copy)]
 pub enum Performed {
     Refused,
     Done(Logged),
 }
 
 // What a log entry hands over: what the call left, or a refusal with the log as given.
-#[derive(Drop)]
+#[derive(Clone, Copy)]
 pub enum EntryAnswer {
     Done(Logged),
     OutOfRange(LogPair),

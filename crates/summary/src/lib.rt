@@ -1,4 +1,6 @@
 // The summary of a class file in a lent text: one figure a line, or the refusal.
+#![tactic(auto)]
+
 ghost use Rattle.std.specs.Prelude.{◌≡◌, ◌+◌, ◌≤◌, length};
 ghost use Rattle.text.specs.Put.{Put};
 ghost use Rattle.store.specs.Log.{places};

@@ -1,4 +1,6 @@
 // The fields of the tail: a release as document 01's numbers, and back.
+#![tactic(auto)]
+
 pub mod single;
 
 ghost use Rattle.std.specs.Prelude.{◌≡◌, true, ◌<◌};
@@ -17,7 +19,7 @@ use schedule::{Context, Header};
 use store::{LOGS, LogPair, LogRecord, Store};
 
 // A participant's state, heard mask, and its log's first and last record.
-#[derive(Drop)]
+#[derive(Clone, Copy)]
 pub struct ParticipantFields {
     pub state: u32,
     pub heard: u32,
@@ -26,7 +28,7 @@ pub struct ParticipantFields {
 }
 
 // The fields of the tail. Message type t has its mask at t - 1, participant p its fields at p - 1, and party p its count of calls at p.
-#[derive(Drop)]
+#[derive(Clone, Copy)]
 pub struct Tail {
     pub n: u32,
     pub votes: u32,

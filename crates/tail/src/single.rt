@@ -18,7 +18,7 @@ use state::{fields_of, release};
 const COUNT_LIMIT: u16 = 65535;
 
 // The refusal's number or 0, the state after the step or as given, and the report byte or 0.
-#[derive(Drop)]
+#[derive(Clone, Copy)]
 pub struct Stepped {
     pub number: u32,
     pub state: Tail,

@@ -1,4 +1,6 @@
 // Text in a lent buffer: each function puts its text at a place that has room for it, and answers the place after it.
+#![tactic(auto)]
+
 ghost use Rattle.std.specs.Prelude.{◌≡◌, cond, ◌+◌, ◌≤◌, ◌<◌, ltb, length};
 ghost use Rattle.text.specs.Put.{Put};
 ghost use Rattle.text.specs.Text.{digit, decimal, hexadecimal, refusal_line};

@@ -1,5 +1,7 @@
 // The figures of a class file, added up from schedule to schedule: totals, and a column with the calls of each party. Each schedule is validated and run
 // as a single one is.
+#![tactic(auto)]
+
 ghost use Rattle.std.specs.Prelude.{◌≡◌, not, ◌&&◌, ◌≤◌, ◌<◌, length, get_or};
 ghost use Rattle.std.proofs.lemmas.List.Edits.{sets};
 ghost use Rattle.schedule.specs.Record.{longest};

@@ -1,4 +1,6 @@
 // The writer: one record at a given place of a lent buffer, where there is room for it; it knows no n. And a whole text at the front of one.
+#![tactic(auto)]
+
 ghost use Rattle.std.specs.Prelude.{◌≡◌, ◌+◌, ◌≤◌, length};
 ghost use Rattle.std.proofs.lemmas.List.Edits.{sets};
 ghost use Rattle.schedule.specs.Record.{record_length, record_bytes};
@@ -9,7 +11,7 @@ use number::{OUT_OF_RANGE, TOO_SHORT, UNKNOWN_KIND, low};
 use schedule::{LONGEST, Record};
 
 // The place after the record, or a refusal's number with the place given or the length needed.
-#[derive(Drop)]
+#[derive(Clone, Copy)]
 pub enum Written {
     Done(usize),
     Refused(u32, usize),

@@ -9,5 +9,5 @@ heard_in_range_spec =
     tie.close
     (tie.spec
     (λ c κs. search rules)
-    (λ c. simp (sym c.before.within.ensures ∙ c.if1.true))
-    (λ c. simp (sym c.before.within.ensures ∙ c.if1.false)))
+    (λ c. simp (sym c.before.within.ensures ∙ c.if-within.true))
+    (λ c. simp (sym c.before.within.ensures ∙ c.if-within.false)))

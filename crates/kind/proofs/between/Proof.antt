@@ -7,5 +7,5 @@ pub between_spec : {M : Type 1} → statement M
 between_spec =
     tie.close
     (tie.spec
-    (λ c. simp (le-leb _ _ c.if1.true))
-    (λ c. simp (lt-leb _ _ c.if1.false)))
+    (λ c. simp (le-leb _ _ c.if-low-k.true))
+    (λ c. simp (lt-leb _ _ c.if-low-k.false)))

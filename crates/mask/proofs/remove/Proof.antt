@@ -11,7 +11,7 @@ remove_spec =
     tie.close
     (tie.spec
     (λ c κs. search rules)
-    (λ c. let a = c.before.before.args in (member 32 a.m a.i (omega arith) (sym c.before.has.ensures ∙ c.if1.true)).below)
-    (λ c. let a = c.before.before.args in omega (arith, member 32 a.m a.i (omega arith) (sym c.before.has.ensures ∙ c.if1.true)))
-    (λ c. let a = c.before.before.args in omega (arith, member 32 a.m a.i (omega arith) (sym c.before.has.ensures ∙ c.if1.true)))
-    (λ c. let a = c.before.before.args in sym (remove_none a.i a.m (bit_of_has a.i a.m (sym c.before.has.ensures ∙ c.if1.false)))))
+    (λ c. let a = c.before.before.args in (member 32 a.m a.i (omega arith) (sym c.before.has.ensures ∙ c.if-has.true)).below)
+    (λ c. let a = c.before.before.args in omega (arith, member 32 a.m a.i (omega arith) (sym c.before.has.ensures ∙ c.if-has.true)))
+    (λ c. let a = c.before.before.args in omega (arith, member 32 a.m a.i (omega arith) (sym c.before.has.ensures ∙ c.if-has.true)))
+    (λ c. let a = c.before.before.args in sym (remove_none a.i a.m (bit_of_has a.i a.m (sym c.before.has.ensures ∙ c.if-has.false)))))

@@ -10,6 +10,6 @@ other_call_spec =
     tie.close
     (tie.spec
     (λ c κs. search rules)
-    (λ c. simp (eq-eqb _ _ c.if1.true))
-    (λ c. simp (sym c.before.has.ensures ∙ c.if2.true, ne_eqb _ _ c.before.before.if1.false))
-    (λ c. simp (sym c.before.has.ensures ∙ c.if2.false, ne_eqb _ _ c.before.before.if1.false)))
+    (λ c. simp (eq-eqb _ _ c.if-j-own.true))
+    (λ c. simp (sym c.before.has.ensures ∙ c.if-has.true, ne_eqb _ _ c.before.before.if-j-own.false))
+    (λ c. simp (sym c.before.has.ensures ∙ c.if-has.false, ne_eqb _ _ c.before.before.if-j-own.false)))

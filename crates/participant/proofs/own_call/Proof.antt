@@ -7,5 +7,5 @@ pub own_call_spec : {M : Type 1} → statement M
 own_call_spec =
     tie.close
     (tie.spec
-    (λ c. simp (eq-eqb _ _ c.if1.true))
-    (λ c. simp (ne_eqb _ _ c.if1.false)))
+    (λ c. simp (eq-eqb _ _ c.if-j-own.true))
+    (λ c. simp (ne_eqb _ _ c.if-j-own.false)))

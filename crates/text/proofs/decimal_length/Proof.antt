@@ -10,10 +10,10 @@ use Rattle.text.proofs.decimal_length.Statement.{statement}
 use Rattle.text.proofs.decimal_length.Tie as tie
 
 -- the digits counted and those left are one more than there are, as the last is counted from the start; the bound keeps the count from wrapping
-abbrev invariant_loop : tie.invariant-loop
+abbrev invariant_loop : tie.invariant-loop-rest
 invariant_loop n rest₀ digits₀ rest digits = (digits + rest ≤ n + 1) × (digits + length (decimal rest) ≡ length (decimal n) + 1)
 
-abbrev decreases_loop : tie.decreases-loop
+abbrev decreases_loop : tie.decreases-loop-rest
 decreases_loop n rest₀ digits₀ rest digits = rest
 
 pub decimal_length_spec : {M : Type 1} → statement M
@@ -25,5 +25,5 @@ decimal_length_spec =
     (λ c. omega arith)
     (λ c. search rules)
     (λ c. search rules)
-    (λ c. omega (arith, length_more c.before.loop.rest c.loop-test.true))
-    (λ c. omega (arith, length_few c.before.loop.rest c.loop-test.false)))
+    (λ c. omega (arith, length_more c.before.loop-rest.rest c.loop-rest-test.true))
+    (λ c. omega (arith, length_few c.before.loop-rest.rest c.loop-rest-test.false)))

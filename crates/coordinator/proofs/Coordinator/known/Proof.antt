@@ -12,5 +12,5 @@ known_spec =
     (λ c κs. search rules)
     (λ c κs. search rules)
     (λ c κs. search rules)
-    (λ c. simp (← c.before.before.before.of.ensures, eq-eqb _ _ (sym c.before.before.number.ensures ∙ c.before.if1.true), c.heard.ensures))
-    (λ c. simp (← c.before.before.of.ensures, ne_eqb _ _ (λ q. c.if1.false (c.before.number.ensures ∙ q)))))
+    (λ c. simp (← c.before.before.before.of-c.ensures, eq-eqb _ _ (sym c.before.before.number.ensures ∙ c.before.if-number-state.true), c.heard.ensures))
+    (λ c. simp (← c.before.before.of-c.ensures, ne_eqb _ _ (λ q. c.if-number-state.false (c.before.number.ensures ∙ q)))))

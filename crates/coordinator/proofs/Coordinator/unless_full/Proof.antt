@@ -7,5 +7,5 @@ pub unless_full_spec : {M : Type 1} → statement M
 unless_full_spec =
     tie.close
     (tie.spec
-    (λ c. simp (eq-eqb _ _ c.if1.true))
-    (λ c. simp (ne_eqb _ _ c.if1.false)))
+    (λ c. simp (eq-eqb _ _ c.if-heard-all.true))
+    (λ c. simp (ne_eqb _ _ c.if-heard-all.false)))

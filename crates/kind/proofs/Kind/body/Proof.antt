@@ -11,5 +11,5 @@ body_spec =
     (tie.spec
     (λ c κs. search rules)
     (λ c κs. search rules)
-    (λ c. omega (arith, c.second-width.ensures, c.before.first_width.ensures, first_most c.before.before.args.k, second_most c.before.before.args.k))
-    (λ c. simp (c.second-width.ensures, c.before.first_width.ensures)))
+    (λ c. omega (arith, c.second_width.ensures, c.before.first_width.ensures, first_most c.before.before.args.k, second_most c.before.before.args.k))
+    (λ c. simp (c.second_width.ensures, c.before.first_width.ensures)))

@@ -12,5 +12,5 @@ first_in_range_spec =
     (λ c κs. search rules)
     (λ c κs. search rules)
     (λ c κs. search rules)
-    (λ c. let args = c.before.before.args in rw (← first_ranged args.n args.self args.a, ← c.before.is-header.ensures, c.if1.true))
-    (λ c. let args = c.before.before.before.before.before.args in rw (c.between.ensures, c.before.greatest-first.ensures, c.before.before.least_first.ensures, ← first_ranged args.n args.self args.a, ← c.before.before.before.before.is-header.ensures, c.before.before.before.if1.false)))
+    (λ c. let args = c.before.before.args in rw (← first_ranged args.n args.self args.a, ← c.before.is_header.ensures, c.if-is_header.true))
+    (λ c. let args = c.before.before.before.before.before.args in rw (c.between.ensures, c.before.greatest_first.ensures, c.before.before.least_first.ensures, ← first_ranged args.n args.self args.a, ← c.before.before.before.before.is_header.ensures, c.before.before.before.if-is_header.false)))

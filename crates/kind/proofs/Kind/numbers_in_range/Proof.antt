@@ -14,5 +14,5 @@ numbers_in_range_spec =
     (tie.spec
     (λ c κs. search rules)
     (λ c κs. search rules)
-    (λ c. let args = c.before.before.before.args in c.second-in-range.ensures ∙ ap (λ x. x && second_in_range args.n args.self args.b) (sym c.before.if1.true ∙ c.before.before.first-in-range.ensures) ∙ kind_ranged args.n args.self args.a args.b)
-    (λ c. let args = c.before.before.args in ap (λ x. x && second_in_range args.n args.self args.b) (sym c.if1.false ∙ c.before.first-in-range.ensures) ∙ kind_ranged args.n args.self args.a args.b))
+    (λ c. let args = c.before.before.before.args in c.second_in_range.ensures ∙ ap (λ x. x && second_in_range args.n args.self args.b) (sym c.before.if-first_in_range.true ∙ c.before.before.first_in_range.ensures) ∙ kind_ranged args.n args.self args.a args.b)
+    (λ c. let args = c.before.before.args in ap (λ x. x && second_in_range args.n args.self args.b) (sym c.if-first_in_range.false ∙ c.before.first_in_range.ensures) ∙ kind_ranged args.n args.self args.a args.b))

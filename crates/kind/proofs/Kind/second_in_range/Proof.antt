@@ -11,4 +11,4 @@ second_in_range_spec =
     (λ c κs. search rules)
     (λ c κs. search rules)
     (λ c κs. search rules)
-    (λ c. let args = c.before.before.before.args in simp (c.between.ensures, c.before.greatest-second.ensures, c.before.before.least-second.ensures, second_ranged args.n args.self args.b)))
+    (λ c. let args = c.before.before.before.args in simp (c.between.ensures, c.before.greatest_second.ensures, c.before.before.least_second.ensures, second_ranged args.n args.self args.b)))

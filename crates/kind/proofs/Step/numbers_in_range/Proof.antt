@@ -15,5 +15,5 @@ numbers_in_range_spec =
     (λ c κs. search rules)
     (λ c κs. search rules)
     (λ c κs. search rules)
-    (λ c. let args = c.before.before.before.before.args in c.numbers-in-range.ensures ∙ ap (λ x. numbers_in_range args.n x args.a args.b) (sym c.before.before.number.ensures ∙ c.before.if1.true))
-    (λ c. let args = c.before.before.before.args in sym (unknown args.n args.k args.a args.b (ne_eqb _ _ (λ q. c.if1.false (c.before.number.ensures ∙ ap kind_number c.before.before.of.ensures ∙ q))))))
+    (λ c. let args = c.before.before.before.before.args in c.numbers_in_range.ensures ∙ ap (λ x. numbers_in_range args.n x args.a args.b) (sym c.before.before.number.ensures ∙ c.before.if-number-k.true))
+    (λ c. let args = c.before.before.before.args in sym (unknown args.n args.k args.a args.b (ne_eqb _ _ (λ q. c.if-number-k.false (c.before.number.ensures ∙ ap kind_number c.before.before.of-kind.ensures ∙ q))))))

@@ -10,5 +10,5 @@ terminating_spec =
     tie.close
     (tie.spec
     (λ c κs. search rules)
-    (λ c. simp (eq-eqb _ _ (sym c.before.insert.ensures ∙ c.if1.true)))
-    (λ c. simp (ne_eqb _ _ (λ e. c.if1.false (c.before.insert.ensures ∙ e)))))
+    (λ c. simp (eq-eqb _ _ (sym c.before.insert.ensures ∙ c.if-insert-all.true)))
+    (λ c. simp (ne_eqb _ _ (λ e. c.if-insert-all.false (c.before.insert.ensures ∙ e)))))

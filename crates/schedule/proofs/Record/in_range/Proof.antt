@@ -14,5 +14,5 @@ in_range_spec =
     (λ c κs. search rules)
     (λ c κs. search rules)
     (λ c κs. search rules)
-    (λ c. simp (c.in-range.ensures, c.before.context.ensures, c.before.before.header.ensures, c.before.before.before.if1.true, ← c.before.before.before.before.is-header.ensures) (context_ranged (record_header c.before.before.before.before.before.args.self)))
-    (λ c. simp (← c.numbers-in-range.ensures, c.before.if1.false, ← c.before.before.is-header.ensures)))
+    (λ c. simp (c.in_range.ensures, c.before.context.ensures, c.before.before.header.ensures, c.before.before.before.if-is_header.true, ← c.before.before.before.before.is_header.ensures) (context_ranged (record_header c.before.before.before.before.before.args.self)))
+    (λ c. simp (← c.numbers_in_range.ensures, c.before.if-is_header.false, ← c.before.before.is_header.ensures)))

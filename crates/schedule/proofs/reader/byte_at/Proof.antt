@@ -11,6 +11,6 @@ byte_at_spec =
     tie.close
     (tie.spec
     (λ c. search rules)
-    (λ c. omega (arith, c.shared-slice-known.given c.before.before.args.i))
+    (λ c. omega (arith, c.shared_slice_known-1.given c.before.before.args.i))
     (λ c. search rules)
-    (λ c. sym (get_or-eq_default c.before.args.bytes.now 0 {n = c.before.args.i} c.if1.false)))
+    (λ c. sym (get_or-eq_default c.before.args.bytes.now 0 {n = c.before.args.i} c.if-i-bytes.false)))

@@ -9,6 +9,6 @@ in_range_with_spec =
     tie.close
     (tie.spec
     (λ c κs. search rules)
-    (λ c. simp (sym c.before.in-range.ensures ∙ c.if1.false))
+    (λ c. simp (sym c.before.in_range.ensures ∙ c.if-in_range.false))
     (λ c κs. search rules)
-    (λ c. simp (← c.numbers-in-range.ensures, sym c.before.before.before.in-range.ensures ∙ c.before.before.if1.true)))
+    (λ c. simp (← c.numbers_in_range.ensures, sym c.before.before.before.in_range.ensures ∙ c.before.before.if-in_range.true)))

@@ -15,8 +15,8 @@ number_at_spec =
     (λ c κs. c.before.before.requires)
     (λ c. c.number.ensures.0)
     (λ c κs. search rules)
-    (λ c. simp c.if2.true)
+    (λ c. simp c.if-width-eq0.true)
     (λ c.
     let args = c.before.before.before.before.args in
-    let one : 1 ≡ args.width = omega (arith, c.if2.false, c.before.before.if1.false) in
-    c.before.byte_at.ensures ∙ sym (one_byte args.bytes.now args.place) ∙ ap (λ w. low_number w (drop args.place args.bytes.now)) one))
+    let one : 1 ≡ args.width = omega (arith, c.if-width-eq0.false, c.before.before.if-width-gt1.false) in
+    c.before.byte_at-b.ensures ∙ sym (one_byte args.bytes.now args.place) ∙ ap (λ w. low_number w (drop args.place args.bytes.now)) one))

@@ -8,5 +8,5 @@ ranged_spec =
     tie.close
     (tie.spec
     (λ c κs. search rules)
-    (λ c. simp (c.length.ensures, c.before.if1.true))
-    (λ c. simp c.if1.false))
+    (λ c. simp (c.length.ensures, c.before.if-good.true))
+    (λ c. simp c.if-good.false))

@@ -9,5 +9,5 @@ ranged_header_spec =
     tie.close
     (tie.spec
     (λ c κs. search rules)
-    (λ c. simp (sym c.before.in-range.ensures ∙ c.if1.true))
-    (λ c. simp (sym c.before.in-range.ensures ∙ c.if1.false)))
+    (λ c. simp (sym c.before.in_range.ensures ∙ c.if-in_range.true))
+    (λ c. simp (sym c.before.in_range.ensures ∙ c.if-in_range.false)))

@@ -10,8 +10,8 @@ record_at_spec =
     tie.close
     (tie.spec
     (λ c κs. search rules)
-    (λ c κs. omega (arith, c.first_width.ensures, c.before.before.requires, first_most c.before.before.args.kind))
-    (λ c. omega (arith, c.before.first_width.ensures, first_most c.before.before.before.args.kind))
+    (λ c κs. omega (arith, c.first_width-width.ensures, c.before.before.requires, first_most c.before.before.args.kind))
+    (λ c. omega (arith, c.before.first_width-width.ensures, first_most c.before.before.before.args.kind))
     (λ c κs. search rules)
-    (λ c κs. omega (arith, c.second-width.ensures, c.before.before.first_width.ensures, c.before.before.before.before.requires, second_most c.before.before.before.before.args.kind))
-    (λ c. simp (c.number-at2.ensures, c.before.second-width.ensures, c.before.before.number_at.ensures, c.before.before.before.first_width.ensures)))
+    (λ c κs. omega (arith, c.second_width.ensures, c.before.before.first_width-width.ensures, c.before.before.before.before.requires, second_most c.before.before.before.before.args.kind))
+    (λ c. simp (c.number_at-2.ensures, c.before.second_width.ensures, c.before.before.number_at.ensures, c.before.before.before.first_width-width.ensures)))

@@ -12,4 +12,4 @@ step_at_spec =
     (λ c κs. search rules)
     (λ c κs. search rules)
     (λ c κs. search rules)
-    (λ c. simp (c.of2.ensures, c.before.byte-at3.ensures, c.before.before.byte-at2.ensures, c.before.before.before.of.ensures, c.before.before.before.before.byte_at.ensures)))
+    (λ c. simp (c.of.ensures, c.before.byte_at-3.ensures, c.before.before.byte_at-2.ensures, c.before.before.before.of-kind.ensures, c.before.before.before.before.byte_at.ensures)))

@@ -9,5 +9,5 @@ log_spec =
     tie.close
     (tie.spec
     (λ c κs. search rules)
-    (λ c. simp (sym c.before.replaceable.ensures ∙ c.if1.true))
-    (λ c. simp (sym c.before.replaceable.ensures ∙ c.if1.false)))
+    (λ c. simp (sym c.before.replaceable.ensures ∙ c.if-replaceable.true))
+    (λ c. simp (sym c.before.replaceable.ensures ∙ c.if-replaceable.false)))

@@ -12,5 +12,5 @@ same_spec =
     (λ c κs. search rules)
     (λ c κs. search rules)
     (λ c κs. search rules)
-    (λ c. simp (c.number4.ensures, c.before.number3.ensures, ← c.before.before.before.number2.ensures, ← c.before.before.before.before.number.ensures, eq-eqb _ _ c.before.before.if1.true))
-    (λ c. simp (← c.before.number2.ensures, ← c.before.before.number.ensures, ne_eqb _ _ c.if1.false)))
+    (λ c. simp (c.number-then-number-2.ensures, c.before.number-then-number.ensures, ← c.before.before.before.number-2.ensures, ← c.before.before.before.before.number.ensures, eq-eqb _ _ c.before.before.if-number.true))
+    (λ c. simp (← c.before.number-2.ensures, ← c.before.before.number.ensures, ne_eqb _ _ c.if-number.false)))
