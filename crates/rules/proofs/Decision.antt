@@ -168,4 +168,4 @@ one_call_left r v s ys h d i lt b t calm more = same d told held
 pub held_after_one_call : HeldAfterOneCall
 held_after_one_call places n votes fits xs s ys h d i lt b t =
     let c : Later (fresh places n votes) (after (fresh places n votes) xs) = later (fresh places n votes) xs (range_left n xs (s ∷ ys) h) (fresh_inv places n votes fits) in
-    one_call_left (after (fresh places n votes) xs) c.inv s ys (rw c.same_n (range_right n xs (s ∷ ys) h)) d i (rw c.same_n lt) b t
+    one_call_left (after (fresh places n votes) xs) c.inv s ys (subst (λ k. AllInRange k (s ∷ ys)) (sym c.same_n) (range_right n xs (s ∷ ys) h)) d i (rw c.same_n lt) b t

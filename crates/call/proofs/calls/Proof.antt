@@ -12,4 +12,4 @@ calls_spec =
     (λ c κs. search rules)
     (λ c κs. search rules)
     (λ c κs. search rules)
-    (λ c. rw (c.new.ensures, c.before.with-log.ensures) (c.before.before.before.party-calls.ensures c.before.before.before.before.before.before.args.store (sym c.before.before.before.before.log-at.ensures))))
+    (λ c. rw (c.new.ensures, c.before.with_log.ensures) (c.before.before.before.party_calls-x.ensures c.before.before.before.before.before.before.args.store (sym c.before.before.before.before.log_at.ensures))))

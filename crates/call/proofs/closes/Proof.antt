@@ -10,5 +10,5 @@ closes_spec =
     (tie.spec
     (λ c κs. search rules)
     (λ c. search rules)
-    (λ c. rw (← c.before.wrote-abort.ensures, c.if1.true, ← add-one c.before.before.args.j) (search rules))
-    (λ c. rw (← c.before.wrote-abort.ensures, c.if1.false) (search rules)))
+    (λ c. rw (← c.before.wrote_abort.ensures, c.if-wrote_abort.true, ← add-one c.before.before.args.j) (search rules))
+    (λ c. rw (← c.before.wrote_abort.ensures, c.if-wrote_abort.false) (search rules)))

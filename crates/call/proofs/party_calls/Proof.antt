@@ -14,5 +14,5 @@ party_calls_spec =
     (λ c κs. search rules)
     (λ c. search rules)
     (λ c κs. search rules)
-    (λ c. rw c.before.before.if1.true c.coordinator-calls.ensures)
-    (λ c. let start = c.before.before.before in λ s e. numbered_log _ (λ p. calls start.args.heard p (suc start.args.j)) _ _ _ _ _ _ _ (omega arith) (c.participant-calls.ensures s e)))
+    (λ c. rw c.before.before.if-p-eq0.true c.coordinator_calls.ensures)
+    (λ c. let start = c.before.before.before in λ s e. numbered_log _ (λ p. calls start.args.heard p (suc start.args.j)) _ _ _ _ _ _ _ (omega arith) (c.participant_calls.ensures s e)))

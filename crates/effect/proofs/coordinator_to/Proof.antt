@@ -14,4 +14,4 @@ coordinator_to_spec =
     (λ c κs. search rules)
     (λ c κs. search rules)
     (λ c κs. search rules)
-    (λ c. rw (c.learnt.ensures, c.before.coordinator-known2.ensures, c.before.before.coordinator-known.ensures, c.before.before.before.before.before.before.before.coordinator.ensures, c.before.before.before.put-coordinator.ensures) (coordinator_goes_lem _ _ _ _ _ c.before.before.before.before.before.send-all.ensures)))
+    (λ c. rw (c.learnt.ensures, c.before.coordinator_known-2.ensures, c.before.before.coordinator_known.ensures, c.before.before.before.before.before.before.before.coordinator-old.ensures, c.before.before.before.put_coordinator.ensures) (coordinator_goes_lem _ _ _ _ _ c.before.before.before.before.before.send_all.ensures)))

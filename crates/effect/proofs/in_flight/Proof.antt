@@ -9,4 +9,4 @@ in_flight_spec =
     (tie.spec
     (λ c κs. search rules)
     (λ c κs. search rules)
-    (λ c. simp (c.has.ensures, c.before.mask-of.ensures)))
+    (λ c. simp (c.has.ensures, c.before.mask_of.ensures)))

@@ -7,4 +7,4 @@ use Rattle.parts.proofs.begins_schedule.Tie as tie
 
 pub begins_schedule_spec : {M : Type 1} → statement M
 begins_schedule_spec =
-    tie.close (tie.spec (λ c κs. search rules) (λ c κs. search rules) (λ c. c.is-header.ensures ∙ ap is_header c.before.of.ensures))
+    tie.close (tie.spec (λ c κs. search rules) (λ c κs. search rules) (λ c. c.is_header.ensures ∙ ap is_header c.before.of-kind.ensures))

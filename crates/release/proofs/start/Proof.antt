@@ -14,4 +14,4 @@ start_spec =
     (λ c κs. search rules)
     (λ c κs. search rules)
     (λ c κs. search rules)
-    (λ c. reads _ 0 _ _ _ (lit< tt) (λ all v d p. coordinator_goes (Coordinator.on_start d)) (rw (c.before.start.ensures, c.before.before.before.coordinator.ensures) at c.coordinator-goes.ensures)))
+    (λ c. reads _ 0 _ _ _ (lit< tt) (λ all v d p. coordinator_goes (Coordinator.on_start d)) (rw (c.before.start.ensures, c.before.before.before.coordinator-c.ensures) at c.coordinator_goes.ensures)))

@@ -13,4 +13,4 @@ step_spec =
     (λ c κs. search rules)
     (λ c κs. search rules)
     (λ c. search rules)
-    (λ c. rw c.new.ensures (stays _ _ _ _ _ _ c.before.without-call.ensures)))
+    (λ c. rw c.new.ensures (stays _ _ _ _ _ _ c.before.without_call.ensures)))

@@ -12,10 +12,10 @@ use borrow.Author.Rules.{rules}
 use Rattle.state.proofs.put_participants.Statement.{statement}
 use Rattle.state.proofs.put_participants.Tie as tie
 
-abbrev invariant_loop : tie.invariant-loop
+abbrev invariant_loop : tie.invariant-loop-i
 invariant_loop fields₀ sites i₀ fields i = (i ≤ places) × UpTo with_sites (λ (r : Release). r.sites) (λ j. get_or sites j waiting) i fields₀ fields
 
-abbrev decreases_loop : tie.decreases-loop
+abbrev decreases_loop : tie.decreases-loop-i
 decreases_loop fields₀ sites i₀ fields i = places - i
 
 pub put_participants_spec : {M : Type 1} → statement M
@@ -31,5 +31,5 @@ put_participants_spec =
     (λ c κs. search rules)
     (λ c. search rules)
     (λ c. search rules)
-    (λ c. (omega arith, rw c.put-participant.ensures (one_participant_lem _ _ _ _ _ (omega arith) refl c.before.before.before.before.loop.invariant.1)))
-    (λ c. all_put _ _ with_sites (λ (r : Release). r.sites) _ places _ c.before.loop.invariant.0 (omega arith) (λ r h. h.sites) c.before.loop.invariant.1))
+    (λ c. (omega arith, rw c.put_participant.ensures (one_participant_lem _ _ _ _ _ (omega arith) refl c.before.before.before.before.loop-i.invariant.1)))
+    (λ c. all_put _ _ with_sites (λ (r : Release). r.sites) _ places _ c.before.loop-i.invariant.0 (omega arith) (λ r h. h.sites) c.before.loop-i.invariant.1))

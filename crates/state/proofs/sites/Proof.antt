@@ -11,10 +11,10 @@ use borrow.Author.Rules.{rules}
 use Rattle.state.proofs.sites.Statement.{statement}
 use Rattle.state.proofs.sites.Tie as tie
 
-abbrev invariant_loop : tie.invariant-loop
+abbrev invariant_loop : tie.invariant-loop-i
 invariant_loop fields sites₀ i₀ sites i = (i ≤ places) × (length sites₀ ≡ places) × (sites ≡ up_to i (site_in fields) sites₀)
 
-abbrev decreases_loop : tie.decreases-loop
+abbrev decreases_loop : tie.decreases-loop-i
 decreases_loop fields sites₀ i₀ sites i = places - i
 
 pub sites_spec : {M : Type 1} → statement M
@@ -30,5 +30,5 @@ sites_spec =
     (λ c. search rules)
     (λ c. search rules)
     (λ c. search rules)
-    (λ c. (omega arith, refl, up_to_next _ _ _ _ _ c.before.before.loop.invariant.2 (ap (λ (p : Participant). record { participant = p }) c.participant-at.ensures)))
-    (λ c. up_to_done places _ _ _ _ c.before.loop.invariant.0 (omega arith) refl c.before.loop.invariant.2))
+    (λ c. (omega arith, refl, up_to_next _ _ _ _ _ c.before.before.loop-i.invariant.2 (ap (λ (p : Participant). record { participant = p }) c.participant_at-participant.ensures)))
+    (λ c. up_to_done places _ _ _ _ c.before.loop-i.invariant.0 (omega arith) refl c.before.loop-i.invariant.2))

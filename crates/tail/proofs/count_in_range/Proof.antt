@@ -7,5 +7,5 @@ pub count_in_range_spec : {M : Type 1} → statement M
 count_in_range_spec =
     tie.close
     (tie.spec
-    (λ c. simp (le-leb _ _ c.if1.true))
-    (λ c. simp (lt-leb _ _ c.if1.false)))
+    (λ c. simp (le-leb _ _ c.if-p-n.true))
+    (λ c. simp (lt-leb _ _ c.if-p-n.false)))

@@ -15,10 +15,10 @@ returns : tie.Need-returns
 returns c =
     let args = c.before.before.before.before.before.before.before.before.before.before.before.before.args in
     simp (
-      c.before.before.put2.ensures.1,
-      c.before.before.before.before.before.before.before.put.ensures.1,
-      c.before.before.before.before.before.before.before.put.ensures.0,
-      c.before.before.before.second-width.ensures,
+      c.before.before.put.ensures.1,
+      c.before.before.before.before.before.before.before.put-next.ensures.1,
+      c.before.before.before.before.before.before.before.put-next.ensures.0,
+      c.before.before.before.second_width.ensures,
       c.before.before.before.before.before.before.before.before.first_width.ensures,
       c.before.before.before.before.before.before.before.before.before.before.number.ensures,
       record_put args.buffer.now args.place args.r,
@@ -35,6 +35,6 @@ put_spec =
     (λ c κs. search rules)
     (λ c κs. simp length-set (omega (arith, c.first_width.ensures, c.before.before.before.before.requires)))
     (λ c κs. search rules)
-    (λ c κs. simp (c.before.before.before.before.put.ensures.1, length-sets, length-set) (omega (arith, c.second-width.ensures, c.before.before.before.before.before.first_width.ensures, c.before.before.before.before.put.ensures.0, c.before.before.before.before.before.before.before.before.before.requires)))
+    (λ c κs. simp (c.before.before.before.before.put-next.ensures.1, length-sets, length-set) (omega (arith, c.second_width.ensures, c.before.before.before.before.before.first_width.ensures, c.before.before.before.before.put-next.ensures.0, c.before.before.before.before.before.before.before.before.before.requires)))
     (λ c. let args = c.before.before.before.before.before.before.before.before.before.before.before.before.args in ap length (returns c) ∙ length-sets args.buffer.now args.place (record_bytes args.r))
     returns)

@@ -9,5 +9,5 @@ writable_spec =
     tie.close
     (tie.spec
     (λ c κs. search rules)
-    (λ c. simp (← c.in-range.ensures, le-leb _ _ c.before.if1.true))
-    (λ c. simp (lt-leb _ _ c.if1.false)))
+    (λ c. simp (← c.in_range.ensures, le-leb _ _ c.before.if-place-le-LONGEST.true))
+    (λ c. simp (lt-leb _ _ c.if-place-le-LONGEST.false)))

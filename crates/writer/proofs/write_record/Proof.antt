@@ -14,5 +14,5 @@ write_record_spec =
     (λ c κs. search rules)
     (λ c κs. search rules)
     (λ c. search rules)
-    (λ c. simp (← c.before.before.before.before.before.before.of.ensures, eq-eqb _ _ (sym c.before.before.before.before.before.number.ensures ∙ c.before.before.before.before.if1.true)) (c.before.before.write-kind.ensures.0, ap written_hands c.before.before.write-kind.ensures.0, c.before.before.write-kind.ensures.1))
-    (λ c. simp (ne_eqb _ _ c.if1.false, ← c.before.number.ensures, ← c.before.before.of.ensures) (refl, refl, refl)))
+    (λ c. simp (← c.before.before.before.before.before.before.of-known.ensures, eq-eqb _ _ (sym c.before.before.before.before.before.number.ensures ∙ c.before.before.before.before.if-number-kind.true)) (c.before.before.write_kind.ensures.0, ap written_hands c.before.before.write_kind.ensures.0, c.before.before.write_kind.ensures.1))
+    (λ c. simp (ne_eqb _ _ c.if-number-kind.false, ← c.before.number.ensures, ← c.before.before.of-known.ensures) (refl, refl, refl)))

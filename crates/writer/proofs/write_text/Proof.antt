@@ -10,7 +10,7 @@ pub write_text_spec : {M : Type 1} → statement M
 write_text_spec =
     tie.close
     (tie.spec
-    (λ c. let args = c.before.before.before.args in text_short args.buffer.now args.whole.now (length args.whole.now) refl c.if1.true)
+    (λ c. let args = c.before.before.before.args in text_short args.buffer.now args.whole.now (length args.whole.now) refl c.if-buffer-needed.true)
     (λ c κs. search rules)
     (λ c. search rules)
-    (λ c. let args = c.before.before.before.before.before.before.before.args in text_fits args.buffer.now args.whole.now (length args.whole.now) refl c.before.before.before.before.if1.false c.before.before.put.ensures))
+    (λ c. let args = c.before.before.before.before.before.before.before.args in text_fits args.buffer.now args.whole.now (length args.whole.now) refl c.before.before.before.before.if-buffer-needed.false c.before.before.put.ensures))

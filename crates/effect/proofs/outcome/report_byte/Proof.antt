@@ -10,6 +10,6 @@ report_byte_spec =
     tie.close
     (tie.spec
     (λ c κs. search rules)
-    (λ c. omega (arith, c.before.outcome-number.ensures, outcome_most c.before.before.args.o))
-    (λ c. rw c.if1.true (omega (arith, c.before.outcome-number.ensures)))
-    (λ c. rw c.if1.false (omega (arith, c.before.outcome-number.ensures))))
+    (λ c. omega (arith, c.before.outcome_number-k.ensures, outcome_most c.before.before.args.o))
+    (λ c. rw c.if-closed.true (omega (arith, c.before.outcome_number-k.ensures)))
+    (λ c. rw c.if-closed.false (omega (arith, c.before.outcome_number-k.ensures))))

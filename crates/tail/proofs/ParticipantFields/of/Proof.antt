@@ -11,4 +11,4 @@ of_spec =
     (λ c κs. search rules)
     (λ c κs. search rules)
     (λ c κs. search rules)
-    (λ c. simp (c.number3.ensures, c.before.number2.ensures, c.before.before.heard.ensures, c.before.before.before.number.ensures)))
+    (λ c. simp (c.number-3.ensures, c.before.number-2.ensures, c.before.before.heard.ensures, c.before.before.before.number.ensures)))

@@ -7,7 +7,7 @@ pub zero_spec : {M : Type 1} → statement M
 zero_spec =
     tie.close
     (tie.spec
-    (λ c. simp (eq-eqb _ _ c.before.if3.true, eq-eqb _ _ c.before.before.before.if2.true, eq-eqb _ _ c.before.before.before.before.before.if1.true))
-    (λ c. simp (ne_eqb _ _ c.if3.false, eq-eqb _ _ c.before.before.if2.true, eq-eqb _ _ c.before.before.before.before.if1.true))
-    (λ c. simp (ne_eqb _ _ c.if2.false, eq-eqb _ _ c.before.before.if1.true))
-    (λ c. simp (ne_eqb _ _ c.if1.false)))
+    (λ c. simp (eq-eqb _ _ c.before.if-self-eq0-3.true, eq-eqb _ _ c.before.before.before.if-self-eq0-2.true, eq-eqb _ _ c.before.before.before.before.before.if-self-eq0.true))
+    (λ c. simp (ne_eqb _ _ c.if-self-eq0-3.false, eq-eqb _ _ c.before.before.if-self-eq0-2.true, eq-eqb _ _ c.before.before.before.before.if-self-eq0.true))
+    (λ c. simp (ne_eqb _ _ c.if-self-eq0-2.false, eq-eqb _ _ c.before.before.if-self-eq0.true))
+    (λ c. simp (ne_eqb _ _ c.if-self-eq0.false)))

@@ -12,14 +12,14 @@ use Rattle.tail.proofs.Tail.in_range.Statement.{statement}
 use Rattle.tail.proofs.Tail.in_range.Tie as tie
 
 -- the header of the tail
-tested : (c : tie.After-in-range) → c.in-range.result ≡ header_in_range (header_of c.before.args.context.header.kind c.before.args.self)
-tested c = c.in-range.ensures ∙ ap context_in_range c.before.requires ∙ context_ranged (header_of c.before.args.context.header.kind c.before.args.self)
+tested : (c : tie.After-in_range) → c.in_range.result ≡ header_in_range (header_of c.before.args.context.header.kind c.before.args.self)
+tested c = c.in_range.ensures ∙ ap context_in_range c.before.requires ∙ context_ranged (header_of c.before.args.context.header.kind c.before.args.self)
 
 -- its mask is that of its n
-mask : (c : tie.Then1) → c.before.before.args.context.all ≡ full c.before.before.args.self.n
+mask : (c : tie.Then-in_range) → c.before.before.args.context.all ≡ full c.before.before.args.self.n
 mask c =
     let start = c.before.before in
-    ap (λ (d : Context). d.all) start.requires ∙ handed_on (header_of start.args.context.header.kind start.args.self) (sym (tested c.before) ∙ c.if1.true)
+    ap (λ (d : Context). d.all) start.requires ∙ handed_on (header_of start.args.context.header.kind start.args.self) (sym (tested c.before) ∙ c.if-in_range.true)
 
 pub in_range_spec : {M : Type 1} → statement M
 in_range_spec =
@@ -29,7 +29,7 @@ in_range_spec =
     (λ c κs. mask c)
     (λ c κs. mask c.before.before)
     (λ c κs. search rules)
-    (λ c. simp (c.calls-in-range.ensures, sym c.before.before.parties-in-range.ensures ∙ c.before.if3.true, sym c.before.before.before.before.messages-in-range.ensures ∙ c.before.before.before.if2.true, sym (tested c.before.before.before.before.before.before) ∙ c.before.before.before.before.before.if1.true))
-    (λ c. simp (sym c.before.parties-in-range.ensures ∙ c.if3.false, sym c.before.before.before.messages-in-range.ensures ∙ c.before.before.if2.true, sym (tested c.before.before.before.before.before) ∙ c.before.before.before.before.if1.true))
-    (λ c. simp (sym c.before.messages-in-range.ensures ∙ c.if2.false, sym (tested c.before.before.before) ∙ c.before.before.if1.true))
-    (λ c. simp (sym (tested c.before) ∙ c.if1.false)))
+    (λ c. simp (c.calls_in_range.ensures, sym c.before.before.parties_in_range.ensures ∙ c.before.if-parties_in_range.true, sym c.before.before.before.before.messages_in_range.ensures ∙ c.before.before.before.if-messages_in_range.true, sym (tested c.before.before.before.before.before.before) ∙ c.before.before.before.before.before.if-in_range.true))
+    (λ c. simp (sym c.before.parties_in_range.ensures ∙ c.if-parties_in_range.false, sym c.before.before.before.messages_in_range.ensures ∙ c.before.before.if-messages_in_range.true, sym (tested c.before.before.before.before.before) ∙ c.before.before.before.before.if-in_range.true))
+    (λ c. simp (sym c.before.messages_in_range.ensures ∙ c.if-messages_in_range.false, sym (tested c.before.before.before) ∙ c.before.before.if-in_range.true))
+    (λ c. simp (sym (tested c.before) ∙ c.if-in_range.false)))

@@ -10,10 +10,10 @@ use Rattle.number.proofs.Table.{up_to, up_to_next, up_to_done}
 use Rattle.tail.proofs.Tail.logs.Statement.{statement}
 use Rattle.tail.proofs.Tail.logs.Tie as tie
 
-abbrev invariant_loop : tie.invariant-loop
+abbrev invariant_loop : tie.invariant-loop-i
 invariant_loop participants logs₀ i₀ logs i = (i ≤ places) × (length logs₀ ≡ places) × (logs ≡ up_to i (λ j. pair_of (get_or participants j (record { state = 0; heard = 0; first = 0; last = 0 }))) logs₀)
 
-abbrev decreases_loop : tie.decreases-loop
+abbrev decreases_loop : tie.decreases-loop-i
 decreases_loop participants logs₀ i₀ logs i = places - i
 
 pub logs_spec : {M : Type 1} → statement M
@@ -30,5 +30,5 @@ logs_spec =
     (λ c. search rules)
     (λ c. search rules)
     (λ c. search rules)
-    (λ c. (omega arith, refl, up_to_next _ _ _ _ _ c.before.before.before.loop.invariant.2 c.pair.ensures))
-    (λ c. up_to_done places _ _ _ _ c.before.loop.invariant.0 (omega arith) refl c.before.loop.invariant.2))
+    (λ c. (omega arith, refl, up_to_next _ _ _ _ _ c.before.before.before.loop-i.invariant.2 c.pair-pair.ensures))
+    (λ c. up_to_done places _ _ _ _ c.before.loop-i.invariant.0 (omega arith) refl c.before.loop-i.invariant.2))

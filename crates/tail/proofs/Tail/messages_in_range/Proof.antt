@@ -12,13 +12,13 @@ use Rattle.number.proofs.Table.{every_next, every_done, every_fails}
 use Rattle.tail.proofs.Tail.messages_in_range.Statement.{statement}
 use Rattle.tail.proofs.Tail.messages_in_range.Tie as tie
 
-abbrev invariant_loop : tie.invariant-loop
+abbrev invariant_loop : tie.invariant-loop-k
 invariant_loop all self k₀ k = (k ≤ 5) × (all ≡ full self.n) × (every (λ j. within self.n (get_or self.messages j 0)) k ≡ true)
 
-abbrev decreases_loop : tie.decreases-loop
+abbrev decreases_loop : tie.decreases-loop-k
 decreases_loop all self k₀ k = 5 - k
 
-loop_holds : tie.Need-loop-init invariant_loop decreases_loop
+loop_holds : tie.Need-loop-k-init invariant_loop decreases_loop
 unfolding every
 loop_holds c = search rules
 
@@ -32,8 +32,8 @@ messages_in_range_spec =
     (λ c. search rules)
     (λ c. search rules)
     (λ c κs. search rules)
-    (λ c. sym (every_fails _ 5 c.before.before.before.before.loop.k c.before.before.before.loop-test.true (ap (leb _) (sym c.before.before.before.before.before.requires) ∙ sym c.before.within.ensures ∙ c.if1.false)))
+    (λ c. sym (every_fails _ 5 c.before.before.before.before.loop-k.k c.before.before.before.loop-k-test.true (ap (leb _) (sym c.before.before.before.before.before.requires) ∙ sym c.before.within.ensures ∙ c.if-within.false)))
     (λ c. search rules)
     (λ c. search rules)
-    (λ c. (omega arith, c.before.before.before.before.before.requires, every_next _ c.before.before.before.before.loop.k c.before.before.before.before.loop.invariant.2 (ap (leb _) (sym c.before.before.before.before.before.requires) ∙ sym c.before.within.ensures ∙ c.if1.true)))
-    (λ c. every_done _ 5 c.before.loop.k c.before.loop.invariant.0 (omega arith) c.before.loop.invariant.2))
+    (λ c. (omega arith, c.before.before.before.before.before.requires, every_next _ c.before.before.before.before.loop-k.k c.before.before.before.before.loop-k.invariant.2 (ap (leb _) (sym c.before.before.before.before.before.requires) ∙ sym c.before.within.ensures ∙ c.if-within.true)))
+    (λ c. every_done _ 5 c.before.loop-k.k c.before.loop-k.invariant.0 (omega arith) c.before.loop-k.invariant.2))

@@ -10,4 +10,4 @@ of_spec =
     (λ c κs. search rules)
     (λ c κs. search rules)
     (λ c κs. search rules)
-    (λ c. simp (c.heard.ensures, c.before.number.ensures, c.before.before.before.participants-of.ensures)))
+    (λ c. simp (c.heard.ensures, c.before.number.ensures, c.before.before.before.participants_of-participants.ensures)))

@@ -12,13 +12,13 @@ use Rattle.number.proofs.Table.{every_next, every_done, every_fails}
 use Rattle.tail.proofs.Tail.participants_in_range.Statement.{statement}
 use Rattle.tail.proofs.Tail.participants_in_range.Tie as tie
 
-abbrev invariant_loop : tie.invariant-loop
+abbrev invariant_loop : tie.invariant-loop-i
 invariant_loop all self n i₀ i = (i ≤ places) × (n ≡ self.n) × (all ≡ full self.n) × (every (λ j. participant_in_range self.n j (fields_at self j)) i ≡ true)
 
-abbrev decreases_loop : tie.decreases-loop
+abbrev decreases_loop : tie.decreases-loop-i
 decreases_loop all self n i₀ i = places - i
 
-loop_holds : tie.Need-loop-init invariant_loop decreases_loop
+loop_holds : tie.Need-loop-i-init invariant_loop decreases_loop
 unfolding every
 loop_holds c = search rules
 
@@ -33,8 +33,8 @@ participants_in_range_spec =
     (λ c. search rules)
     (λ c. search rules)
     (λ c κs. search rules)
-    (λ c. sym (every_fails _ places c.before.before.before.before.loop.i c.before.before.before.loop-test.true (sym c.before.in-range.ensures ∙ c.if1.false)))
+    (λ c. sym (every_fails _ places c.before.before.before.before.loop-i.i c.before.before.before.loop-i-test.true (sym c.before.in_range.ensures ∙ c.if-in_range.false)))
     (λ c. search rules)
     (λ c. search rules)
-    (λ c. (omega arith, refl, c.before.before.before.before.before.requires, every_next _ c.before.before.before.before.loop.i c.before.before.before.before.loop.invariant.3 (sym c.before.in-range.ensures ∙ c.if1.true)))
-    (λ c. every_done _ places c.before.loop.i c.before.loop.invariant.0 (omega arith) c.before.loop.invariant.3))
+    (λ c. (omega arith, refl, c.before.before.before.before.before.requires, every_next _ c.before.before.before.before.loop-i.i c.before.before.before.before.loop-i.invariant.3 (sym c.before.in_range.ensures ∙ c.if-in_range.true)))
+    (λ c. every_done _ places c.before.loop-i.i c.before.loop-i.invariant.0 (omega arith) c.before.loop-i.invariant.3))

@@ -11,10 +11,10 @@ use Rattle.number.proofs.Table.{up_to, up_to_next, up_to_done}
 use Rattle.tail.proofs.Tail.participants_of.Statement.{statement}
 use Rattle.tail.proofs.Tail.participants_of.Tie as tie
 
-abbrev invariant_loop : tie.invariant-loop
+abbrev invariant_loop : tie.invariant-loop-i
 invariant_loop sites logs participants₀ i₀ participants i = (i ≤ places) × (length participants₀ ≡ places) × (participants ≡ up_to i (λ j. fields_for (participant_at sites j) (log_at logs j)) participants₀)
 
-abbrev decreases_loop : tie.decreases-loop
+abbrev decreases_loop : tie.decreases-loop-i
 decreases_loop sites logs participants₀ i₀ participants i = places - i
 
 pub participants_of_spec : {M : Type 1} → statement M
@@ -33,5 +33,5 @@ participants_of_spec =
     (λ c. search rules)
     (λ c. search rules)
     (λ c. search rules)
-    (λ c. (omega arith, refl, up_to_next _ _ _ _ _ c.before.before.before.before.loop.invariant.2 c.of.ensures))
-    (λ c. up_to_done places _ _ _ _ c.before.loop.invariant.0 (omega arith) refl c.before.loop.invariant.2))
+    (λ c. (omega arith, refl, up_to_next _ _ _ _ _ c.before.before.before.before.loop-i.invariant.2 c.of-fields.ensures))
+    (λ c. up_to_done places _ _ _ _ c.before.loop-i.invariant.0 (omega arith) refl c.before.loop-i.invariant.2))

@@ -10,5 +10,5 @@ parties_in_range_spec =
     (tie.spec
     (λ c κs. search rules)
     (λ c κs. search rules)
-    (λ c. simp (c.participants-in-range.ensures, ← c.before.before.before.requires, sym c.before.before.numbers-in-range.ensures ∙ c.before.if1.true))
-    (λ c. simp (← c.before.before.requires, sym c.before.numbers-in-range.ensures ∙ c.if1.false)))
+    (λ c. simp (c.participants_in_range.ensures, ← c.before.before.before.requires, sym c.before.before.numbers_in_range.ensures ∙ c.before.if-numbers_in_range.true))
+    (λ c. simp (← c.before.before.requires, sym c.before.numbers_in_range.ensures ∙ c.if-numbers_in_range.false)))

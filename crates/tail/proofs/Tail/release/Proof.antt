@@ -10,4 +10,4 @@ release_spec =
     (λ c κs. search rules)
     (λ c κs. search rules)
     (λ c κs. search rules)
-    (λ c. simp (c.before.logs.ensures, c.before.before.sites.ensures, c.before.before.before.before.of.ensures)))
+    (λ c. simp (c.before.logs-logs.ensures, c.before.before.sites-sites.ensures, c.before.before.before.before.of-coordinator.ensures)))

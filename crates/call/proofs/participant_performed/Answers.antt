@@ -1,0 +1,9 @@
+-- `call::participant_performed` meets its contract, case by case. Assumes nothing.
+use Rattle.participant.specs.Participant
+use Rattle.rules.specs.Step.{participant_answered}
+use Rattle.call.proofs.Calling.{idles_on, reads_called}
+use borrow.Author.Rules.{rules}
+use Rattle.call.proofs.participant_performed.Goals as goal
+
+pub returns-in-Done : goal.returns-in-Done
+returns-in-Done c = rw c.in-Done.is (reads_called _ c.args.i _ _ _ c.requires.0 (λ all v d p x. participant_answered c.args.heard c.args.i c.args.j c.in-Done.done (Participant.on_answer all c.args.i p c.args.j c.in-Done.done.answer)) c.args.j _ _ _ ((rw (c.answer.ensures, c.requires.3) at c.participant_answered.ensures) c.args.all))

@@ -1,0 +1,16 @@
+-- `state::counts` meets its contract, case by case. Assumes nothing.
+use mathlib.Core.Path.{◌≡◌, refl}
+use Prim.Native.Nat.{suc, ◌-◌, ◌≤◌}
+use native.Mathlib.Omega.{arith}
+use lib.ListN.{length}
+use Rattle.store.specs.Log.{places}
+use Rattle.number.proofs.Table.{up_to, up_to_next, up_to_done}
+use Rattle.state.specs.Fields.{count_in}
+use borrow.Author.Rules.{rules}
+use Rattle.state.proofs.counts.Goals as goal
+
+pub loop-p-preserved : goal.loop-p-preserved
+loop-p-preserved c = (omega arith, refl, up_to_next _ _ _ _ _ c.loop-p.invariant.2 (refl))
+
+pub returns : goal.returns
+returns c = up_to_done (suc places) _ _ _ _ c.loop-p.invariant.0 (omega arith) refl c.loop-p.invariant.2
