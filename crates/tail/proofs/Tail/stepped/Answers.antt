@@ -1,6 +1,5 @@
 -- `tail::Tail::stepped` meets its contract, case by case. Assumes nothing.
 use mathlib.Core.Path.{sym, ap, ◌∙◌}
-use lib.ListN.{length-map}
 use Rattle.store.specs.Log.{places}
 use Rattle.kind.proofs.Numbers.{more_steps}
 use Rattle.rules.specs.Report.{moves}
@@ -18,11 +17,11 @@ use borrow.Author.Rules.{rules}
 use Rattle.tail.proofs.Tail.stepped.Goals as goal
 
 pub step-stepped-requires : goal.step-stepped-requires
-step-stepped-requires c κs = (more_steps c.args.self.n places (n_in_range Kind.WideHeader count_limit c.args.self c.requires.0).1 c.args.s c.requires.1, can_count c.args.self (simp length-map at c.well_formed.0.1.1.1.1.1.1.0.1.0.1) (simp length-map at c.well_formed.0.1.1.1.1.1.1.1.1.0.1.0.1) c.requires.0 _ (c.fields_of-fields.ensures ∙ ap fields c.release-before.ensures))
+step-stepped-requires c = (more_steps c.args.self.n places (n_in_range Kind.WideHeader count_limit c.args.self c.requires.0).1 c.args.s c.requires.1, can_count c.args.self (c.well_formed.0.1.1.1.1.1.1.0.1.0.1) (c.well_formed.0.1.1.1.1.1.1.1.1.0.1.0.1) c.requires.0 _ (c.fields_of-fields.ensures ∙ ap fields c.release-before.ensures))
 
 pub returns-then-moves : goal.returns-then-moves
 returns-then-moves c =
     let self = c.args.self in
     let report : Report = record { outcome = c.step-stepped.result.outcome; closed = c.step-stepped.result.closed; next = c.release.result } in
     handed_moved self report c.of-state.result c.report_byte.result (sym c.moves.ensures ∙ c.if-moves.true) c.of-state.ensures c.report_byte.ensures
-    ∙ ap (handed self) (same_report c.args.self (simp length-map at c.well_formed.0.1.1.1.1.1.1.0.1.0.1) (simp length-map at c.well_formed.0.1.1.1.1.1.1.1.1.0.1.0.1) c.requires.0 _ (c.fields_of-fields.ensures ∙ ap fields c.release-before.ensures) c.args.s _ _ _ _ _ _ c.requires.2 (ap (λ (r : Release). r.store) c.release-before.ensures) c.step-stepped.ensures _ c.release.ensures)
+    ∙ ap (handed self) (same_report c.args.self (c.well_formed.0.1.1.1.1.1.1.0.1.0.1) (c.well_formed.0.1.1.1.1.1.1.1.1.0.1.0.1) c.requires.0 _ (c.fields_of-fields.ensures ∙ ap fields c.release-before.ensures) c.args.s _ _ _ _ _ _ c.requires.2 (ap (λ (r : Release). r.store) c.release-before.ensures) c.step-stepped.ensures _ c.release.ensures)
