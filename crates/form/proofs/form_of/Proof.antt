@@ -10,4 +10,4 @@ form_of_spec =
     (λ c κs. search rules)
     (λ c. search rules)
     (λ c. search rules)
-    (λ c. simp c.room.ensures))
+    (λ c. simp c.room-room.ensures))

@@ -17,10 +17,10 @@ use borrow.Author.Rules.{rules}
 use Rattle.layout.proofs.put_counts.Statement.{statement}
 use Rattle.layout.proofs.put_counts.Tie as tie
 
-abbrev invariant_loop : tie.invariant-loop
+abbrev invariant_loop : tie.invariant-loop-p
 invariant_loop report₀ place fields many at₀ p₀ report at p = (p ≤ many) × Putting (low_bytes count_width) (take many (tabulate (suc places) (calls_in fields))) report₀ place report at p
 
-abbrev decreases_loop : tie.decreases-loop
+abbrev decreases_loop : tie.decreases-loop-p
 decreases_loop report₀ place fields many at₀ p₀ report at p = many - p
 
 pub put_counts_spec : {M : Type 1} → statement M
@@ -34,9 +34,9 @@ put_counts_spec =
     (λ c. search rules)
     (λ c. search rules)
     (λ c. search rules)
-    (λ c κs. let args = c.before.before.before.before.before.before.args in let turn = c.before.before.before.loop in put_here (low_bytes count_width) (take (args.form.places + 1) (tabulate (suc places) (calls_in args.fields.now))) args.report.now args.place turn.report turn.at turn.p 0 turn.invariant.1 count_width (args.form.places + 1) (low_length count_width) (taken_length (args.form.places + 1) (suc places) (calls_in args.fields.now) (omega (arith, c.before.before.before.before.before.before.requires.0.0))) c.before.before.loop-test.true (omega (arith, c.before.before.before.before.before.before.requires.1)))
+    (λ c κs. let args = c.before.before.before.before.before.before.args in let turn = c.before.before.before.loop-p in put_here (low_bytes count_width) (take (args.form.places + 1) (tabulate (suc places) (calls_in args.fields.now))) args.report.now args.place turn.report turn.at turn.p 0 turn.invariant.1 count_width (args.form.places + 1) (low_length count_width) (taken_length (args.form.places + 1) (suc places) (calls_in args.fields.now) (omega (arith, c.before.before.before.before.before.before.requires.0.0))) c.before.before.loop-p-test.true (omega (arith, c.before.before.before.before.before.before.requires.1)))
     (λ c. search rules)
     (λ c. search rules)
-    (λ c. let args = c.before.before.before.before.before.before.before.before.before.args in let turn = c.before.before.before.before.before.before.loop in (omega (arith, c.before.before.before.before.before.loop-test.true), put_turn (low_bytes count_width) (take (args.form.places + 1) (tabulate (suc places) (calls_in args.fields.now))) args.report.now args.place turn.report turn.at turn.p 0 turn.invariant.1 (calls_in args.fields.now turn.p) _ _ (omega (arith, (taken_length (args.form.places + 1) (suc places) (calls_in args.fields.now) (omega (arith, c.before.before.before.before.before.before.before.before.before.requires.0.0))), c.before.before.before.before.before.loop-test.true)) (taken (args.form.places + 1) (suc places) (calls_in args.fields.now) (omega (arith, c.before.before.before.before.before.before.before.before.before.requires.0.0)) turn.p 0 c.before.before.before.before.before.loop-test.true) (put_number count_width (calls_in args.fields.now turn.p) c.before.before.put.ensures)))
-    (λ c. c.before.loop.invariant.1.same)
-    (λ c. let args = c.before.before.before.before.args in let turn = c.before.loop in put_same (ap (λ m. each (low_bytes count_width) (take m (tabulate (suc places) (calls_in args.fields.now)))) (add-one args.form.places)) (put_all (low_bytes count_width) (take (args.form.places + 1) (tabulate (suc places) (calls_in args.fields.now))) args.report.now args.place turn.report turn.at turn.p turn.invariant.1 (omega (arith, (taken_length (args.form.places + 1) (suc places) (calls_in args.fields.now) (omega (arith, c.before.before.before.before.requires.0.0))), c.loop-test.false)))))
+    (λ c. let args = c.before.before.before.before.before.before.before.before.before.args in let turn = c.before.before.before.before.before.before.loop-p in (omega (arith, c.before.before.before.before.before.loop-p-test.true), put_turn (low_bytes count_width) (take (args.form.places + 1) (tabulate (suc places) (calls_in args.fields.now))) args.report.now args.place turn.report turn.at turn.p 0 turn.invariant.1 (calls_in args.fields.now turn.p) _ _ (omega (arith, (taken_length (args.form.places + 1) (suc places) (calls_in args.fields.now) (omega (arith, c.before.before.before.before.before.before.before.before.before.requires.0.0))), c.before.before.before.before.before.loop-p-test.true)) (taken (args.form.places + 1) (suc places) (calls_in args.fields.now) (omega (arith, c.before.before.before.before.before.before.before.before.before.requires.0.0)) turn.p 0 c.before.before.before.before.before.loop-p-test.true) (put_number count_width (calls_in args.fields.now turn.p) c.before.before.put-at.ensures)))
+    (λ c. c.before.loop-p.invariant.1.same)
+    (λ c. let args = c.before.before.before.before.args in let turn = c.before.loop-p in put_same (ap (λ m. each (low_bytes count_width) (take m (tabulate (suc places) (calls_in args.fields.now)))) (add-one args.form.places)) (put_all (low_bytes count_width) (take (args.form.places + 1) (tabulate (suc places) (calls_in args.fields.now))) args.report.now args.place turn.report turn.at turn.p turn.invariant.1 (omega (arith, (taken_length (args.form.places + 1) (suc places) (calls_in args.fields.now) (omega (arith, c.before.before.before.before.requires.0.0))), c.loop-p-test.false)))))

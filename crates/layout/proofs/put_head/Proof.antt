@@ -22,4 +22,4 @@ put_head_spec =
     (λ c. search rules)
     (λ c κs. search rules)
     (λ c. search rules)
-    (λ c. let args = c.before.before.before.before.before.before.before.before.before.before.before.before.before.before.before.before.before.before.before.before.before.args in put_then (put_number number_width (n_in args.fields.now) c.before.before.before.before.before.before.before.before.before.before.before.before.before.before.before.before.before.put.ensures) (put_then (put_number args.width (votes_in args.fields.now) c.before.before.before.before.before.before.before.before.before.before.before.before.put2.ensures) (put_then (put_number number_width (coordinator_state_in args.fields.now) c.before.before.before.before.before.before.before.put3.ensures) (put_number args.width (coordinator_heard_in args.fields.now) c.before.before.put4.ensures)))))
+    (λ c. let args = c.before.before.before.before.before.before.before.before.before.before.before.before.before.before.before.before.before.before.before.before.before.args in put_then (put_number number_width (n_in args.fields.now) c.before.before.before.before.before.before.before.before.before.before.before.before.before.before.before.before.before.put-a.ensures) (put_then (put_number args.width (votes_in args.fields.now) c.before.before.before.before.before.before.before.before.before.before.before.before.put-b.ensures) (put_then (put_number number_width (coordinator_state_in args.fields.now) c.before.before.before.before.before.before.before.put-c.ensures) (put_number args.width (coordinator_heard_in args.fields.now) c.before.before.put.ensures)))))

@@ -18,4 +18,4 @@ put_participant_spec =
     (λ c κs. search rules)
     (λ c κs. search rules)
     (λ c. search rules)
-    (λ c. let args = c.before.before.before.before.before.before.before.before.before.before.before.before.before.before.before.before.before.before.before.args in let x = party_fields args.state args.heard args.log in put_then (put_number number_width args.state c.before.before.before.before.before.before.before.before.before.before.before.before.before.before.before.before.put.ensures) (put_then (put_number args.width args.heard c.before.before.before.before.before.before.before.before.before.before.before.before.put2.ensures) (put_then (put_number number_width x.first (rw c.before.before.before.before.before.before.before.before.number.ensures at c.before.before.before.before.before.before.before.put3.ensures)) (put_number number_width x.last (rw c.before.before.before.number2.ensures at c.before.before.put4.ensures))))))
+    (λ c. let args = c.before.before.before.before.before.before.before.before.before.before.before.before.before.before.before.before.before.before.before.args in let x = party_fields args.state args.heard args.log in put_then (put_number number_width args.state c.before.before.before.before.before.before.before.before.before.before.before.before.before.before.before.before.put-a.ensures) (put_then (put_number args.width args.heard c.before.before.before.before.before.before.before.before.before.before.before.before.put-b.ensures) (put_then (put_number number_width x.first (rw c.before.before.before.before.before.before.before.before.number.ensures at c.before.before.before.before.before.before.before.put-c.ensures)) (put_number number_width x.last (rw c.before.before.before.number-2.ensures at c.before.before.put.ensures))))))

@@ -38,21 +38,21 @@ from c h = release_in c.args.numbers.now c.args.store
 
 -- how many bytes the tail has
 needed : (c : tie.After-length) → c.length.result ≡ tail_size c.before.before.before.before.before.args.context.header
-needed c = c.length.ensures ∙ ap tail_length c.before.form_of.ensures
+needed c = c.length.ensures ∙ ap tail_length c.before.form_of-form.ensures
 
 -- the tail that is put
-tail_here : (c : tie.After-run-steps) →
+tail_here : (c : tie.After-run_steps-left) →
     let start = c.before.before.before.before.before.before.before.before.before in
-    tail_bytes c.before.before.before.before.before.form_of.result (tail_from c.run-steps.new.1.1.1.1.0 c.run-steps.result)
+    tail_bytes c.before.before.before.before.before.form_of-form.result (tail_from c.run_steps-left.new.numbers c.run_steps-left.result)
     ≡ tail_bytes (form_of start.args.context.header.kind) (tail_of (after (from start start.args.context.header) (steps_of (reading start))))
 tail_here c =
     let start = c.before.before.before.before.before.before.before.before.before in
-    ap₂ (λ (f : Form) (t : Tail). tail_bytes f t) c.before.before.before.before.before.form_of.ensures
-    (ap₂ tail_from c.run-steps.ensures.numbers c.run-steps.ensures.store ∙ tail_from_lem (after (from start start.args.context.header) (steps_of (reading start))) (left_places start.requires))
+    ap₂ (λ (f : Form) (t : Tail). tail_bytes f t) c.before.before.before.before.before.form_of-form.ensures
+    (ap₂ tail_from c.run_steps-left.ensures.numbers c.run_steps-left.ensures.store ∙ tail_from_lem (after (from start start.args.context.header) (steps_of (reading start))) (left_places start.requires))
 
 -- what the run answers and leaves, where the report is too short and where it has room
 
-short : (c : tie.Then1) →
+short : (c : tie.Then-report-needed) →
     let start = c.before.before.before.before.before.before in
     let report = start.args.report.now in
     (Written.Refused too_short (start.args.steps + c.before.length.result) ≡ reading_answer (length report) (reading start)) × (report ≡ reading_leaves (from start) report (reading start))
@@ -62,13 +62,13 @@ short c =
     let d = start.args.context in
     let h = d.header in
     let report = start.args.report.now in
-    let t = lt-ltb (length report) (m + tail_size h) (omega (arith, c.if1.true, needed c.before)) in
+    let t = lt-ltb (length report) (m + tail_size h) (omega (arith, c.if-report-needed.true, needed c.before)) in
     rw (needed c.before) (
       sym (answered (from start) (reading start) d m start.requires.steps (length report) ∙ ap (λ b. cond b (Written.Refused too_short (m + tail_size h)) (Written.Done (m + tail_size h))) t),
       sym (left (from start) (reading start) d m start.requires.steps report ∙ ap (λ b. cond b report (sets report 0 (report_bytes h.kind (from start h) (steps_of (reading start))))) t),
     )
 
-done : (c : tie.Else1) →
+done : (c : tie.Else-report-needed) →
     let start = c.before.before.before.before.before.before in
     let report = start.args.report.now in
     (Written.Done (start.args.steps + c.before.length.result) ≡ reading_answer (length report) (reading start))
@@ -79,7 +79,7 @@ done c =
     let d = start.args.context in
     let h = d.header in
     let report = start.args.report.now in
-    let t = le-ltb (length report) (m + tail_size h) (omega (arith, c.if1.false, needed c.before)) in
+    let t = le-ltb (length report) (m + tail_size h) (omega (arith, c.if-report-needed.false, needed c.before)) in
     rw (needed c.before) (
       sym (answered (from start) (reading start) d m start.requires.steps (length report) ∙ ap (λ b. cond b (Written.Refused too_short (m + tail_size h)) (Written.Done (m + tail_size h))) t),
       sym (left (from start) (reading start) d m start.requires.steps report ∙ ap (λ b. cond b report (sets report 0 (report_bytes h.kind (from start h) (steps_of (reading start))))) t),
@@ -90,10 +90,10 @@ write_report_spec =
     tie.close
     (tie.spec
     (λ c κs. search rules)
-    (λ c κs. rw c.form_of.ensures (form_fits c.before.before.before.before.args.context.header.kind))
+    (λ c κs. rw c.form_of-form.ensures (form_fits c.before.before.before.before.args.context.header.kind))
     (λ c. let start = c.before.before.before.before.before in let args = start.args in omega (arith, (stand args.schedule.now args.start args.context args.steps start.requires.steps).few, needed c, tail_most (form_of args.context.header.kind) (form_fits args.context.header.kind)))
     (λ c. short c)
-    (λ c κs. (c.before.before.before.before.before.before.before.before.requires, omega (arith, c.before.before.if1.false)))
-    (λ c κs. (rw c.before.before.before.before.before.before.before.before.before.form_of.ensures (form_fits c.before.before.before.before.before.before.before.before.before.before.before.before.before.args.context.header.kind), omega (arith, c.before.before.before.before.before.before.before.if1.false, c.before.before.before.before.before.before.before.before.length.ensures, c.before.before.before.before.run-steps.auto)))
+    (λ c κs. (c.before.before.before.before.before.before.before.before.requires, omega (arith, c.before.before.if-report-needed.false)))
+    (λ c κs. (rw c.before.before.before.before.before.before.before.before.form_of-form.ensures (form_fits c.before.before.before.before.before.before.before.before.before.before.before.before.args.context.header.kind), omega (arith, c.before.before.before.before.before.before.if-report-needed.false, c.before.before.before.before.before.before.before.length.ensures, c.before.before.before.run_steps-left.auto)))
     (λ c. search rules)
-    (λ c. let start = c.before.before.before.before.before.before.before.before.before.before.before.before.before.before.before.before in let args = start.args in let there = done c.before.before.before.before.before.before.before.before.before.before in (there.0, c.before.before.put-tail.ensures.leaves ∙ ap₂ (λ (l z : List ℕ). sets l args.steps z) c.before.before.before.before.before.before.before.run-steps.ensures.bytes (tail_here c.before.before.before.before.before.before.before) ∙ whole (from start) (reading start) args.context args.steps start.requires.steps args.report.now ∙ there.1)))
+    (λ c. let start = c.before.before.before.before.before.before.before.before.before.before.before.before.before.before.before in let args = start.args in let there = done c.before.before.before.before.before.before.before.before.before in (there.0, c.before.put_tail.ensures.leaves ∙ ap₂ (λ (l z : List ℕ). sets l args.steps z) c.before.before.before.before.before.before.run_steps-left.ensures.bytes (tail_here c.before.before.before.before.before.before) ∙ whole (from start) (reading start) args.context args.steps start.requires.steps args.report.now ∙ there.1)))

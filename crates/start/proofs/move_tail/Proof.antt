@@ -19,20 +19,20 @@ use Rattle.start.proofs.move_tail.Statement.{statement}
 use Rattle.start.proofs.move_tail.Tie as tie
 
 -- nothing refuses the tail
-taken : (c : tie.Else1) → tail_refusal Kind.Header c.before.before.before.before.before.args.tail.now ≡ accepted
-taken c = sym c.before.before.read-start.ensures.refusal ∙ c.if1.false
+taken : (c : tie.Else-start-ne0) → tail_refusal Kind.Header c.before.before.before.before.before.args.tail.now ≡ accepted
+taken c = sym c.before.before.read_start-start.ensures.refusal ∙ c.if-start-ne0.false
 
 -- how many bytes the wide tail has
-needed : (c : tie.After-length) → c.length.result ≡ tail_length wide
-needed c = c.length.ensures ∙ ap tail_length c.before.form_of.ensures
+needed : (c : tie.After-length-needed) → c.length-needed.result ≡ tail_length wide
+needed c = c.length-needed.ensures ∙ ap tail_length c.before.form_of-form.ensures
 
 -- the bytes that are put
-moved : (c : tie.Else1) →
+moved : (c : tie.Else-start-ne0) →
     let tail = c.before.before.before.before.before.args.tail.now in
-    tail_bytes wide (tail_from c.before.before.read-start.result.numbers c.before.before.read-start.result.store) ≡ moved_bytes tail
+    tail_bytes wide (tail_from c.before.before.read_start-start.result.numbers c.before.before.read_start-start.result.store) ≡ moved_bytes tail
 moved c =
     let tail = c.before.before.before.before.before.args.tail.now in
-    let start = c.before.before.read-start.ensures in
+    let start = c.before.before.read_start-start.ensures in
     ap (tail_bytes wide)
     (ap₂ tail_from (start.numbers (taken c)) (start.store (taken c))
     ∙ tail_from_lem (release_of (tail_at narrow tail)) (start_places Kind.Header tail)
@@ -43,10 +43,10 @@ move_tail_spec =
     tie.close
     (tie.spec
     (λ c κs. search rules)
-    (λ c. let args = c.before.before.before.before.before.args in let k = c.before.before.read-start.ensures.refusal in let x = move_refused args.wide.now args.tail.now (λ e. c.if1.true (k ∙ e)) in let answer = ap (λ j. Written.Refused j 0) k ∙ x.0 in (answer, ap written_hands answer, x.1))
+    (λ c. let args = c.before.before.before.before.before.args in let k = c.before.before.read_start-start.ensures.refusal in let x = move_refused args.wide.now args.tail.now (λ e. c.if-start-ne0.true (k ∙ e)) in let answer = ap (λ j. Written.Refused j 0) k ∙ x.0 in (answer, ap written_hands answer, x.1))
     (λ c κs. search rules)
-    (λ c κs. rw c.form_of.ensures (form_fits Kind.WideHeader))
-    (λ c. let args = c.before.before.before.before.before.before.before.before.args in let k = needed c.before in let x = move_short args.wide.now args.tail.now (taken c.before.before.before) (omega (arith, c.if2.true, k)) in let answer = ap (Written.Refused too_short) k ∙ x.0 in (answer, ap written_hands answer, x.1))
-    (λ c κs. (rw c.before.before.before.before.before.before.form_of.ensures (form_fits Kind.WideHeader), omega (arith, c.before.before.before.before.if2.false, c.before.before.before.before.before.length.ensures)))
+    (λ c κs. rw c.form_of-form.ensures (form_fits Kind.WideHeader))
+    (λ c. let args = c.before.before.before.before.before.before.before.before.args in let k = needed c.before in let x = move_short args.wide.now args.tail.now (taken c.before.before.before) (omega (arith, c.if-wide-needed.true, k)) in let answer = ap (Written.Refused too_short) k ∙ x.0 in (answer, ap written_hands answer, x.1))
+    (λ c κs. (rw c.before.before.before.before.before.before.form_of-form.ensures (form_fits Kind.WideHeader), omega (arith, c.before.before.before.before.if-wide-needed.false, c.before.before.before.before.before.length-needed.ensures)))
     (λ c. search rules)
-    (λ c. let args = c.before.before.before.before.before.before.before.before.before.before.before.before.before.before.before.args in let k = needed c.before.before.before.before.before.before.before.before in let x = move_done args.wide.now args.tail.now (taken c.before.before.before.before.before.before.before.before.before.before) (omega (arith, c.before.before.before.before.before.before.before.if2.false, k)) in let answer = ap Written.Done k ∙ x.0 in (answer, ap written_hands answer, c.before.before.put-tail.ensures.leaves ∙ ap (λ f. sets args.wide.now 0 (tail_bytes f (tail_from c.before.before.before.before.before.before.before.before.before.before.before.before.read-start.result.numbers c.before.before.before.before.before.before.before.before.before.before.before.before.read-start.result.store))) c.before.before.before.before.before.before.before.before.before.form_of.ensures ∙ ap (sets args.wide.now 0) (moved c.before.before.before.before.before.before.before.before.before.before) ∙ x.1)))
+    (λ c. let args = c.before.before.before.before.before.before.before.before.before.before.before.before.before.before.before.args in let k = needed c.before.before.before.before.before.before.before.before in let x = move_done args.wide.now args.tail.now (taken c.before.before.before.before.before.before.before.before.before.before) (omega (arith, c.before.before.before.before.before.before.before.if-wide-needed.false, k)) in let answer = ap Written.Done k ∙ x.0 in (answer, ap written_hands answer, c.before.before.put_tail.ensures.leaves ∙ ap (λ f. sets args.wide.now 0 (tail_bytes f (tail_from c.before.before.before.before.before.before.before.before.before.before.before.before.read_start-start.result.numbers c.before.before.before.before.before.before.before.before.before.before.before.before.read_start-start.result.store))) c.before.before.before.before.before.before.before.before.before.form_of-form.ensures ∙ ap (sets args.wide.now 0) (moved c.before.before.before.before.before.before.before.before.before.before) ∙ x.1)))

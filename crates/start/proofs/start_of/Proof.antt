@@ -12,4 +12,4 @@ start_of_spec =
     (tie.spec
     (λ c κs. search rules)
     (λ c κs. search rules)
-    (λ c. (refl, refl, c.before.fields-of.ensures ∙ ap fields c.before.before.release.ensures, ap (λ (r : Release). r.store) c.before.before.release.ensures)))
+    (λ c. (refl, refl, c.before.fields_of-numbers.ensures ∙ ap fields c.before.before.release-r.ensures, ap (λ (r : Release). r.store) c.before.before.release-r.ensures)))

@@ -10,7 +10,7 @@ pub validate_from_spec : {M : Type 1} → statement M
 validate_from_spec =
     tie.close
     (tie.spec
-    (λ c. let args = c.before.before.args in sym (ap validated (read_long args.refusal args.context.header args.rest.now c.if1.true)))
-    (λ c. let args = c.before.before.before.args in sym (ap validated (read_refused args.refusal args.context.header args.rest.now c.before.if1.false c.if2.true)))
+    (λ c. let args = c.before.before.args in sym (ap validated (read_long args.refusal args.context.header args.rest.now c.if-rest-gt-LONGEST.true)))
+    (λ c. let args = c.before.before.before.args in sym (ap validated (read_refused args.refusal args.context.header args.rest.now c.before.if-rest-gt-LONGEST.false c.if-refusal-ne0.true)))
     (λ c κs. search rules)
-    (λ c. let args = c.before.before.before.before.args in c.count-steps.ensures ∙ sym (ap validated (read_steps args.refusal args.context.header args.rest.now c.before.before.if1.false c.before.if2.false))))
+    (λ c. let args = c.before.before.before.before.args in c.count_steps.ensures ∙ sym (ap validated (read_steps args.refusal args.context.header args.rest.now c.before.before.if-rest-gt-LONGEST.false c.before.if-refusal-ne0.false))))

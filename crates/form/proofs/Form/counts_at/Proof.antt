@@ -11,6 +11,6 @@ counts_at_spec =
     (tie.spec
     (λ c κs. search rules)
     (λ c κs. search rules)
-    (λ c. let start = c.before.before.before in rw c.before.participant-length.ensures (omega (arith, parties_small start.args.self start.requires)))
-    (λ c. let start = c.before.before.before in rw (c.before.participant-length.ensures, c.before.before.participants-at.ensures) (omega (arith, parties_small start.args.self start.requires, start.requires)))
-    (λ c. simp (c.before.participant-length.ensures, c.before.before.participants-at.ensures)))
+    (λ c. let start = c.before.before.before in rw c.before.participant_length.ensures (omega (arith, parties_small start.args.self start.requires)))
+    (λ c. let start = c.before.before.before in rw (c.before.participant_length.ensures, c.before.before.participants_at.ensures) (omega (arith, parties_small start.args.self start.requires, start.requires)))
+    (λ c. simp (c.before.participant_length.ensures, c.before.before.participants_at.ensures)))

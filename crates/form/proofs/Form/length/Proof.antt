@@ -12,5 +12,5 @@ length_spec =
     (λ c κs. search rules)
     (λ c. search rules)
     (λ c. search rules)
-    (λ c. omega (arith, parties_small c.before.before.args.self c.before.before.requires, c.before.before.requires, c.before.counts-at.ensures))
+    (λ c. omega (arith, parties_small c.before.before.args.self c.before.before.requires, c.before.before.requires, c.before.counts_at.ensures))
     (λ c. search rules))

@@ -16,4 +16,4 @@ fields_spec =
     (λ c. search rules)
     (λ c. search rules)
     (λ c κs. search rules)
-    (λ c. simp (c.before.before.before.number.ensures.0, c.before.before.number2.ensures.0, c.before.number3.ensures.0, c.number4.ensures.0)))
+    (λ c. simp (c.before.before.before.number.ensures.0, c.before.before.number-2.ensures.0, c.before.number-3.ensures.0, c.number-4.ensures.0)))

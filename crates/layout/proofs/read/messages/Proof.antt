@@ -11,10 +11,10 @@ use borrow.Author.Rules.{rules}
 use Rattle.layout.proofs.read.messages.Statement.{statement}
 use Rattle.layout.proofs.read.messages.Tie as tie
 
-abbrev invariant_loop : tie.invariant-loop
+abbrev invariant_loop : tie.invariant-loop-k
 invariant_loop bytes width start l₀ k₀ l k = (k ≤ types) × (length l₀ ≡ types) × (l ≡ up_to k (message_at width bytes) l₀)
 
-abbrev decreases_loop : tie.decreases-loop
+abbrev decreases_loop : tie.decreases-loop-k
 decreases_loop bytes width start l₀ k₀ l k = types - k
 
 pub messages_spec : {M : Type 1} → statement M
@@ -25,12 +25,12 @@ messages_spec =
     decreases_loop
     (λ c κs. search rules)
     (λ c. search rules)
-    (λ c. let args = c.before.before.before.before.args in omega (arith, slot c.before.loop.k types args.form.width c.loop-test.true, c.before.before.before.before.requires.0.1))
-    (λ c. let args = c.before.before.before.before.args in omega (arith, slot c.before.loop.k types args.form.width c.loop-test.true, c.before.before.before.before.requires.0.1, c.before.before.messages-at.ensures))
-    (λ c κs. let args = c.before.before.before.before.args in (omega (arith, slot c.before.loop.k types args.form.width c.loop-test.true, c.before.before.before.before.requires.1, c.before.before.messages-at.ensures), c.before.before.before.before.requires.0.1))
+    (λ c. let args = c.before.before.before.before.args in omega (arith, slot c.before.loop-k.k types args.form.width c.loop-k-test.true, c.before.before.before.before.requires.0.1))
+    (λ c. let args = c.before.before.before.before.args in omega (arith, slot c.before.loop-k.k types args.form.width c.loop-k-test.true, c.before.before.before.before.requires.0.1, c.before.before.messages_at-start.ensures))
+    (λ c κs. let args = c.before.before.before.before.args in (omega (arith, slot c.before.loop-k.k types args.form.width c.loop-k-test.true, c.before.before.before.before.requires.1, c.before.before.messages_at-start.ensures), c.before.before.before.before.requires.0.1))
     (λ c. search rules)
     (λ c. search rules)
     (λ c. search rules)
     (λ c. search rules)
-    (λ c. let args = c.before.before.before.before.before.args in (omega arith, refl, up_to_next _ _ _ _ _ c.before.before.loop.invariant.2 (rw c.before.before.before.messages-at.ensures at c.number.ensures.0)))
-    (λ c. up_to_done types _ _ _ _ c.before.loop.invariant.0 (omega arith) refl c.before.loop.invariant.2))
+    (λ c. let args = c.before.before.before.before.before.args in (omega arith, refl, up_to_next _ _ _ _ _ c.before.before.loop-k.invariant.2 (rw c.before.before.before.messages_at-start.ensures at c.number-m.ensures.0)))
+    (λ c. up_to_done types _ _ _ _ c.before.loop-k.invariant.0 (omega arith) refl c.before.loop-k.invariant.2))

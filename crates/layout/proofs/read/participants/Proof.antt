@@ -10,10 +10,10 @@ use borrow.Author.Rules.{rules}
 use Rattle.layout.proofs.read.participants.Statement.{statement}
 use Rattle.layout.proofs.read.participants.Tie as tie
 
-abbrev invariant_loop : tie.invariant-loop
+abbrev invariant_loop : tie.invariant-loop-i
 invariant_loop bytes form l₀ i₀ l i = (i ≤ places) × (length l₀ ≡ places) × (l ≡ up_to i (participant_at form bytes) l₀)
 
-abbrev decreases_loop : tie.decreases-loop
+abbrev decreases_loop : tie.decreases-loop-i
 decreases_loop bytes form l₀ i₀ l i = places - i
 
 pub participants_spec : {M : Type 1} → statement M
@@ -28,5 +28,5 @@ participants_spec =
     (λ c. search rules)
     (λ c. search rules)
     (λ c. search rules)
-    (λ c. (omega arith, refl, up_to_next _ _ _ _ _ c.before.before.loop.invariant.2 c.participant.ensures))
-    (λ c. up_to_done places _ _ _ _ c.before.loop.invariant.0 (omega arith) refl c.before.loop.invariant.2))
+    (λ c. (omega arith, refl, up_to_next _ _ _ _ _ c.before.before.loop-i.invariant.2 c.participant-f.ensures))
+    (λ c. up_to_done places _ _ _ _ c.before.loop-i.invariant.0 (omega arith) refl c.before.loop-i.invariant.2))

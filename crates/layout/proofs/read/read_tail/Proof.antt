@@ -16,4 +16,4 @@ read_tail_spec =
     (λ c κs. search rules)
     (λ c κs. search rules)
     (λ c κs. search rules)
-    (λ c. simp (c.before.before.before.before.number.ensures.0, c.before.before.before.number2.ensures.0, c.before.before.number3.ensures.0, c.before.heard-at.ensures, c.number4.ensures.0, c.before.before.before.before.before.before.before.messages.ensures, c.before.before.before.before.before.before.participants.ensures, c.before.before.before.before.before.calls.ensures)))
+    (λ c. simp (c.before.before.before.before.number.ensures.0, c.before.before.before.number-2.ensures.0, c.before.before.number-3.ensures.0, c.before.heard_at.ensures, c.number-4.ensures.0, c.before.before.before.before.before.before.before.messages-messages.ensures, c.before.before.before.before.before.before.participants-participants.ensures, c.before.before.before.before.before.calls-calls.ensures)))

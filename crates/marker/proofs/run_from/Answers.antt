@@ -14,8 +14,7 @@ use Rattle.start.proofs.Begun.{passed_from, steps_from_lem, at_once, start_back,
 use Rattle.marker.specs.Types.{Context, Written, Validated}
 use Rattle.marker.specs.Run.{reading_answer, reading_leaves, run_from_answers, run_from_leaves}
 use Rattle.marker.proofs.Ran.{run_refused, left_from}
-use Rattle.marker.proofs.run_from.Statement.{statement}
-use Rattle.marker.proofs.run_from.Tie as tie
+use Rattle.marker.proofs.run_from.Goals as goal
 
 -- the report that is written from the start of a tail is the run's
 written : {tail : List ℕ} {s : Start} (from : StartOf Kind.WideHeader tail s) (bytes : List ℕ) {y : Validated} (e : y ≡ validated (read_under s.refusal s.context.header bytes)) (c : Context) (m : ℕ)
@@ -30,15 +29,8 @@ written {tail = tail} {s = s} from bytes e c m d x before after a l =
           ∙ left_from (λ _. start_release tail) (read_from tail bytes) c m (steps_from_lem from bytes e c m d) _ (start_back from bytes e c m d) before,
     )
 
-pub run_from_spec : {M : Type 1} → statement M
-run_from_spec =
-    tie.close
-    (tie.spec
-    (λ c κs. search rules)
-    (λ c κs. search rules)
-    (λ c. search rules)
-    (λ c κs. let told = c.before.before.before.before.before.first.given in started c.before.before.before.before.before.before.before.before.read-start.ensures c.before.before.before.before.before.before.before.before.before.before.before.before.args.rest.now c.before.before.before.before.before.before.before.validate-from.ensures told.0.0 told.0.1.0 told.1)
-    (λ c. search rules)
-    (λ c. search rules)
-    (λ c. let args = c.before.before.before.before.before.before.before.before.before.before.before.before.before.before.before.args in let told = c.before.before.before.before.before.before.before.before.first.given in let wrote = c.before.before.write-report.ensures in let x = written c.before.before.before.before.before.before.before.before.before.before.before.read-start.ensures args.rest.now c.before.before.before.before.before.before.before.before.before.before.validate-from.ensures told.0.0 told.0.1.0 told.1 _ args.report.now _ wrote.0 wrote.1 in (x.0, ap written_hands x.0, x.1))
-    (λ c. let args = c.before.before.before.before.before.before.before.before.args in let told = c.before.first2.given in let x = run_refused (λ _. start_release args.tail.now) (read_from args.tail.now args.rest.now) told.0.0 told.0.1.0 (sym (passed_from c.before.before.before.before.read-start.ensures args.rest.now c.before.before.before.validate-from.ensures) ∙ told.1) (length args.report.now) args.report.now in (x.0, ap written_hands x.0, x.1)))
+pub write_report-requires : goal.write_report-requires
+write_report-requires c = started c.read_start-start.ensures c.args.rest.now c.validate_from-first.ensures c.in-Steps.context c.in-Steps.steps c.in-Steps.is
+
+pub returns-in-Steps : goal.returns-in-Steps
+returns-in-Steps c = let args = c.args in let wrote = c.write_report.ensures in let x = written c.read_start-start.ensures args.rest.now c.validate_from-first.ensures c.in-Steps.context c.in-Steps.steps c.in-Steps.is _ args.report.now _ wrote.0 wrote.1 in (x.0, ap written_hands x.0, x.1)
