@@ -30,7 +30,7 @@ figures_fit file ss e = omega (arith, each_most (single_reports file ss e), ap l
 
 pub mean_exact : MeanExact
 mean_exact file ss e =
-    let some = (class_kept.in-range file ss e).1 in
+    let some = (class_kept.in_range file ss e).1 in
     let calls : ℕ = sum (map calls_in ss) in
     (sym (div-add-mod' calls (length ss)), mod-lt calls some)
 
@@ -40,7 +40,7 @@ first_of f [] h = absurd (omega arith)
 first_of f (s ∷ ss) h = first_largest (f s) (map f ss)
 
 pub largest_first : LargestFirst
-largest_first file ss e = first_of calls_in ss (class_kept.in-range file ss e).1
+largest_first file ss e = first_of calls_in ss (class_kept.in_range file ss e).1
 
 -- no schedule has more sites than there are places
 
@@ -55,7 +55,7 @@ each_sites (runs_and_then {part} {rest} {s} {ss} r rs) =
 
 pub largest_sites : LargestSites
 largest_sites file ss e =
-    (each_sites (single_reports file ss e), (first_place (largest (map sites_of ss)) (map sites_of ss), first_of sites_of ss (class_kept.in-range file ss e).1))
+    (each_sites (single_reports file ss e), (first_place (largest (map sites_of ss)) (map sites_of ss), first_of sites_of ss (class_kept.in_range file ss e).1))
 
 -- no more schedules pass a test than there are
 pub count_few : (test : Schedule → Bool) (ss : List Schedule) → count_of test ss ≤ length ss
@@ -89,7 +89,7 @@ pub record Small (f : Figures) : Type 0 where
 pub figures_small : (file : List ℕ) (ss : List Schedule) → read_class file ≡ Class ss → Small (figures_of ss)
 figures_small file ss e =
     let fit = figures_fit file ss e in
-    let short = (class_kept.in-range file ss e).2 in
+    let short = (class_kept.in_range file ss e).2 in
     let calls : List ℕ = map calls_in ss in
     record {
       schedules = omega (arith, fit, short);

@@ -172,6 +172,7 @@ class_some file ss r h = go (parts file) (first_of file h) ss r
   where
     go : (ps : List (List ℕ)) → {x : List ℕ} {y : List (List ℕ)} → ps ≡ x ∷ y → (ss : List Schedule) → EachRuns ps ss → 0 < length ss
     go [] e ss r = let z : ◌≡◌ {A = ℕ} 0 1 = cc in absurd (omega arith)
+    go (p ∷ ps) e [] r = elim r [ ]
     go (p ∷ ps) e (s ∷ ss) (runs_and_then a b) = omega arith
 
 -- a file that is not empty and not too long is read by its parts
@@ -193,7 +194,7 @@ class_kept =
     record {
       whole = whole;
       bytes_kept = λ file b ss e. each_bytes (single_reports file ss e) (rw (whole file) b) ∙ whole file;
-      in_range_lem = λ file ss e. let x = accepted_file file ss e in
+      in_range = λ file ss e. let x = accepted_file file ss e in
           (each_ranged (single_reports file ss e), class_some file ss (single_reports file ss e) x.1, x.0);
       accepted_kept = λ ps ss r b some fits. let same = each_bytes r b in
           rw (← same) (read_class_lem ss (each_ranged r) some (omega (arith, ap length same, fits)));

@@ -53,7 +53,7 @@ pub record ClassKept : Type 0 where
   pub whole : (file : List ℕ) → flatten (parts file) ≡ file
   pub bytes_kept : (file : List ℕ) → AllBytes file → (ss : List Schedule) → read_class file ≡ Class ss → class_bytes ss ≡ file
   -- each schedule is in range, there is one at least, and they fit
-  pub in_range_lem : (file : List ℕ) (ss : List Schedule) → read_class file ≡ Class ss → AllSchedulesInRange ss × (0 < length ss) × (length file ≤ longest)
+  pub in_range : (file : List ℕ) (ss : List Schedule) → read_class file ≡ Class ss → AllSchedulesInRange ss × (0 < length ss) × (length file ≤ longest)
   -- schedules that are accepted by themselves make an accepted file, where they fit; and so does every list of schedules in range
   pub accepted_kept : (ps : List (List ℕ)) (ss : List Schedule) → EachRuns ps ss → AllBytes (flatten ps) → 0 < length ss → length (flatten ps) ≤ longest
       → read_class (flatten ps) ≡ Class ss

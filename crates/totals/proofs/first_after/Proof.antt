@@ -9,6 +9,6 @@ first_after_spec =
     tie.close
     (tie.spec
     (λ c. search rules)
-    (λ c. simp (eq-eqb _ _ c.if1.true))
-    (λ c. simp (ne_eqb _ _ c.before.before.before.if1.false, lt-ltb _ _ c.before.if2.true))
-    (λ c. simp (ne_eqb _ _ c.before.before.if1.false, le-ltb _ _ c.if2.false)))
+    (λ c. simp (eq-eqb _ _ c.if-t-eq0.true))
+    (λ c. simp (ne_eqb _ _ c.before.before.before.if-t-eq0.false, lt-ltb _ _ c.before.if-t-calls.true))
+    (λ c. simp (ne_eqb _ _ c.before.before.if-t-eq0.false, le-ltb _ _ c.if-t-calls.false)))

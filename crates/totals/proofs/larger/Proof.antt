@@ -7,5 +7,5 @@ pub larger_spec : {M : Type 1} → statement M
 larger_spec =
     tie.close
     (tie.spec
-    (λ c. simp (lt-ltb _ _ c.if1.true))
-    (λ c. simp (le-ltb _ _ c.if1.false)))
+    (λ c. simp (lt-ltb _ _ c.if-a-b.true))
+    (λ c. simp (le-ltb _ _ c.if-a-b.false)))

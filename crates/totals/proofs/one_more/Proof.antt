@@ -9,5 +9,5 @@ one_more_spec =
     tie.close
     (tie.spec
     (λ c. search rules)
-    (λ c. simp c.if1.true)
-    (λ c. simp c.if1.false (omega arith)))
+    (λ c. simp c.if-b.true)
+    (λ c. simp c.if-b.false (omega arith)))

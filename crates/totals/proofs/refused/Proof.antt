@@ -8,4 +8,4 @@ refused_spec =
     tie.close
     (tie.spec
     (λ c κs. search rules)
-    (λ c. simp c.none.ensures))
+    (λ c. simp c.none-totals.ensures))

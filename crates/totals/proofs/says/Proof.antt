@@ -12,4 +12,4 @@ says_spec =
     tie.close
     (tie.spec
     (λ c κs. search rules)
-    (λ c. let args = c.before.args in ap (λ k. eqb (args.byte % 4) k) c.report-byte.ensures ∙ byte_says args.o args.byte))
+    (λ c. let args = c.before.args in ap (λ k. eqb (args.byte % 4) k) c.report_byte.ensures ∙ byte_says args.o args.byte))

@@ -11,10 +11,10 @@ use Rattle.totals.proofs.Bytes.{sum_next}
 use Rattle.totals.proofs.sum_of.Statement.{statement}
 use Rattle.totals.proofs.sum_of.Tie as tie
 
-abbrev invariant_loop : tie.invariant-loop
+abbrev invariant_loop : tie.invariant-loop-p
 invariant_loop calls total₀ p₀ total p = (p ≤ length calls) × (total ≡ sum (take p calls)) × (total ≤ p * longest)
 
-abbrev decreases_loop : tie.decreases-loop
+abbrev decreases_loop : tie.decreases-loop-p
 decreases_loop calls total₀ p₀ total p = length calls - p
 
 pub sum_of_spec : {M : Type 1} → statement M
@@ -27,9 +27,9 @@ sum_of_spec =
     (λ c. (omega arith, refl, omega arith))
     (λ c. search rules)
     (λ c. search rules)
-    (λ c. let turn = c.before.before.loop in let few = c.before.before.before.requires.few turn.p in omega (arith, turn.invariant.2, few, c.before.before.before.requires.parties, c.before.loop-test.true))
+    (λ c. let turn = c.before.before.loop-p in let few = c.before.before.before.requires.few turn.p in omega (arith, turn.invariant.2, few, c.before.before.before.requires.parties, c.before.loop-p-test.true))
     (λ c. search rules)
     (λ c. search rules)
-    (λ c. let turn = c.before.before.loop in let few = c.before.before.before.requires.few turn.p in (omega (arith, c.before.loop-test.true), omega (arith, turn.invariant.1, sum_next c.before.before.before.args.calls.now turn.p c.before.loop-test.true), omega (arith, turn.invariant.2, few)))
+    (λ c. let turn = c.before.before.loop-p in let few = c.before.before.before.requires.few turn.p in (omega (arith, c.before.loop-p-test.true), omega (arith, turn.invariant.1, sum_next c.before.before.before.args.calls.now turn.p c.before.loop-p-test.true), omega (arith, turn.invariant.2, few)))
     (λ c. search rules)
-    (λ c. let turn = c.before.loop in turn.invariant.1 ∙ ap sum (take_all turn.p c.before.before.args.calls.now c.loop-test.false)))
+    (λ c. let turn = c.before.loop-p in turn.invariant.1 ∙ ap sum (take_all turn.p c.before.before.args.calls.now c.loop-p-test.false)))

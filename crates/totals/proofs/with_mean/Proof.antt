@@ -11,4 +11,4 @@ with_mean_spec =
     (λ c κs. search rules)
     (λ c. search rules)
     (λ c. search rules)
-    (λ c. simp c.before.before.sum_of.ensures))
+    (λ c. simp c.before.before.sum_of-calls.ensures))

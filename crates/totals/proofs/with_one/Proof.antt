@@ -15,4 +15,4 @@ with_one_spec =
     (λ c κs. search rules)
     (λ c κs. search rules)
     (λ c κs. search rules)
-    (λ c. simp (c.larger2.ensures, c.before.first-after.ensures, c.before.before.larger.ensures, c.before.before.before.one-more3.ensures, c.before.before.before.before.neither.ensures, c.before.before.before.before.before.one-more2.ensures, c.before.before.before.before.before.before.one_more.ensures)))
+    (λ c. simp (c.larger-2.ensures, c.before.first_after.ensures, c.before.before.larger.ensures, c.before.before.before.one_more-3.ensures, c.before.before.before.before.neither.ensures, c.before.before.before.before.before.one_more-2.ensures, c.before.before.before.before.before.before.one_more.ensures)))

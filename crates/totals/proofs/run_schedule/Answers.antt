@@ -1,0 +1,43 @@
+-- `totals::run_schedule` meets its contract: from the fresh release of its header. Assumes nothing.
+use mathlib.Core.Path.{◌∙◌}
+use Prim.Native.Nat.{suc, ◌+◌, ◌≤◌}
+use native.Mathlib.Omega.{arith}
+use lib.ListN.{length, take, drop}
+use borrow.Author.Rules.{rules}
+use Rattle.store.specs.Log.{places}
+use Rattle.schedule.specs.Record.{header_record, record_length}
+use Rattle.state.specs.Fields.{fields, counts_from, release_in}
+use Rattle.passes.specs.Pass.{reading_from, steps_of, fresh_of, Leaves}
+use Rattle.passes.proofs.Begun.{begun}
+use Rattle.totals.specs.Adding.{Entries}
+use Rattle.totals.proofs.Run.{few_steps, numbers_long, run_sum, run_entries, run_added, run_bytes}
+use Rattle.totals.proofs.run_schedule.Goals as goal
+use Rattle.totals.proofs.run_schedule.Goals.{After-run_steps}
+
+-- what the second pass leaves
+left : (c : After-run_steps) →
+    let args = c.args in
+    let h = args.context.header in
+    Leaves (release_in (fields (fresh_of h)) (fresh_of h).store) (steps_of (reading_from args.part.now h (record_length (header_record h))))
+    args.bytes.now c.run_steps.result c.run_steps.new.numbers c.run_steps.new.report
+left c = rw (c.first_step-start.ensures, c.fresh-numbers.ensures, c.empty.ensures) at c.run_steps.ensures
+
+-- its numbers end with the counts
+
+long : (c : After-run_steps) → counts_from + suc places ≤ length c.run_steps.new.numbers
+long c = numbers_long c.args.part.now c.args.context c.args.steps c.requires.0 (left c)
+
+entries : (c : After-run_steps) → Entries (take (suc places) (drop counts_from c.run_steps.new.numbers))
+entries c = run_entries c.args.part.now c.args.context c.args.steps c.requires.0 (left c)
+
+pub run_steps-requires : goal.run_steps-requires
+run_steps-requires c = let args = c.args in rw (c.first_step-start.ensures, c.fresh-numbers.ensures, c.empty.ensures) (begun args.context args.part.now args.steps c.requires.0, omega (arith, few_steps args.part.now args.context args.steps c.requires.0, c.requires.1))
+
+pub add_calls-requires : goal.add_calls-requires
+add_calls-requires c = (c.requires.2, entries c)
+
+pub sum_of-requires : goal.sum_of-requires
+sum_of-requires c = entries c
+
+pub returns : goal.returns
+returns c = let args = c.args in let ran = left c in (c.sum_of.ensures ∙ run_sum args.part.now args.context args.steps c.requires.0 ran, c.add_calls.ensures ∙ run_added args.part.now args.context args.steps c.requires.0 ran args.column.now, run_bytes args.part.now args.context args.steps c.requires.0 ran)
