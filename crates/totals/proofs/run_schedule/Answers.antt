@@ -34,10 +34,10 @@ pub run_steps-requires : goal.run_steps-requires
 run_steps-requires c = let args = c.args in rw (c.first_step-start.ensures, c.fresh-numbers.ensures, c.empty.ensures) (begun args.context args.part.now args.steps c.requires.0, omega (arith, few_steps args.part.now args.context args.steps c.requires.0, c.requires.1))
 
 pub add_calls-requires : goal.add_calls-requires
-add_calls-requires c = (c.requires.2, entries c)
+add_calls-requires c = (c.requires.2, entries (goal.at.add_calls-requires c).After-run_steps)
 
 pub sum_of-requires : goal.sum_of-requires
-sum_of-requires c = entries c
+sum_of-requires c = entries (goal.at.sum_of-requires c).After-run_steps
 
 pub returns : goal.returns
-returns c = let args = c.args in let ran = left c in (c.sum_of.ensures ∙ run_sum args.part.now args.context args.steps c.requires.0 ran, c.add_calls.ensures ∙ run_added args.part.now args.context args.steps c.requires.0 ran args.column.now, run_bytes args.part.now args.context args.steps c.requires.0 ran)
+returns c = let args = c.args in let ran = left (goal.at.returns c).After-run_steps in (c.sum_of.ensures ∙ run_sum args.part.now args.context args.steps c.requires.0 ran, c.add_calls.ensures ∙ run_added args.part.now args.context args.steps c.requires.0 ran args.column.now, run_bytes args.part.now args.context args.steps c.requires.0 ran)

@@ -1,6 +1,5 @@
 -- `totals::said` meets its contract: byte by byte. Assumes nothing.
 use mathlib.Core.Path.{◌≡◌, refl, sym, ◌∙◌}
-use mathlib.Core.Logic.{⊎_elim}
 use mathlib.Core.Bool.{◌||◌}
 use Prim.Native.Nat.{◌-◌, ◌≤◌}
 use lib.ListN.{length, drop}
@@ -8,9 +7,17 @@ use borrow.Author.Rules.{rules}
 use Rattle.figures.specs.Figures.{said_in}
 use Rattle.totals.proofs.Bytes.{said_here, said_next, said_all}
 use Rattle.totals.proofs.said.Goals as goal
+use Rattle.totals.proofs.said.Goals.{then-says, else-says}
 
 pub loop-i-preserved : goal.loop-i-preserved
-loop-i-preserved c = let args = c.args in let turn = c.loop-i in let test = c.loop-i-test.true in let says = c.says.ensures in (search rules, ⊎_elim (λ w. rw w.1 (said_here args.o args.bytes.now turn.i test turn.found (sym says ∙ w.0.taken))) (λ w. rw w.1 (said_next args.o args.bytes.now turn.i test turn.found (sym says ∙ w.0.left))) c.if-says.branch ∙ turn.invariant.1)
+loop-i-preserved c =
+    let args = c.args in
+    let turn = c.loop-i in
+    let test = c.loop-i-test.true in
+    (search rules, elim c.if-says.branch [
+      then-says w ↦ rw w.found-is (said_here args.o args.bytes.now turn.i test turn.found (sym c.says.ensures ∙ w.if-says.true) ∙ turn.invariant.1)
+    | else-says w ↦ rw w.found-is (said_next args.o args.bytes.now turn.i test turn.found (sym c.says.ensures ∙ w.if-says.false) ∙ turn.invariant.1)
+    ])
 
 pub returns : goal.returns
 returns c = let args = c.args in let turn = c.loop-i in said_all args.o args.bytes.now turn.i turn.found c.loop-i-test.false ∙ turn.invariant.1
