@@ -13,6 +13,6 @@ in_bounds_spec =
     tie.close
     (tie.spec
     (λ c κs. search rules)
-    (λ c. let args = c.before.before.before.args in sym (ap₂ (λ (a b : Bool). a && (b && leb args.k most_steps)) (sym c.before.before.in-range.ensures ∙ c.before.if1.true) (le-leb args.context.header.n most_sites c.if2.true)))
-    (λ c. let args = c.before.before.before.args in sym (ap₂ (λ (a b : Bool). a && (b && leb args.k most_steps)) (sym c.before.before.in-range.ensures ∙ c.before.if1.true) (lt-leb args.context.header.n most_sites c.if2.false)))
-    (λ c. let args = c.before.before.args in sym (ap (λ (a : Bool). a && (leb args.context.header.n most_sites && leb args.k most_steps)) (sym c.before.in-range.ensures ∙ c.if1.false))))
+    (λ c. let args = c.before.before.before.args in sym (ap₂ (λ (a b : Bool). a && (b && leb args.k most_steps)) (sym c.before.before.in_range.ensures ∙ c.before.if-in_range.true) (le-leb args.context.header.n most_sites c.if-n-le-MOST_SITES.true)))
+    (λ c. let args = c.before.before.before.args in sym (ap₂ (λ (a b : Bool). a && (b && leb args.k most_steps)) (sym c.before.before.in_range.ensures ∙ c.before.if-in_range.true) (lt-leb args.context.header.n most_sites c.if-n-le-MOST_SITES.false)))
+    (λ c. let args = c.before.before.args in sym (ap (λ (a : Bool). a && (leb args.context.header.n most_sites && leb args.k most_steps)) (sym c.before.in_range.ensures ∙ c.if-in_range.false))))

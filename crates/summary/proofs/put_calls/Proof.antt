@@ -10,8 +10,7 @@ pub put_calls_spec : {M : Type 1} → statement M
 put_calls_spec =
     tie.close
     (tie.spec
-    (λ c. search rules)
     (λ c κs. let start = c.before.before.before.before.before in omega (arith, start.requires.1, calls_long start.args.f))
-    (λ c κs. let start = c.before.before.before.before.before.before.before.before.before in (start.requires.0, omega (arith, start.requires.1, calls_long start.args.f, c.before.before.before.put-line.ensures.ends, c.before.before.before.put-line.auto)))
+    (λ c κs. let start = c.before.before.before.before.before.before.before.before.before in (start.requires.0, omega (arith, start.requires.1, calls_long start.args.f, c.before.before.before.put_line-end.ensures.ends, c.before.before.before.put_line-end.auto)))
     (λ c. search rules)
-    (λ c. put_then c.before.before.before.before.before.before.put-line.ensures c.before.before.put-column.ensures))
+    (λ c. put_then c.before.before.before.before.before.before.put_line-end.ensures c.before.before.put_column.ensures))

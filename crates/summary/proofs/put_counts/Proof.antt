@@ -10,13 +10,9 @@ pub put_counts_spec : {M : Type 1} → statement M
 put_counts_spec =
     tie.close
     (tie.spec
-    (λ c. search rules)
     (λ c κs. let start = c.before.before.before in omega (arith, start.requires, counts_long start.args.t))
+    (λ c κs. let start = c.before.before.before.before.before.before.before.before in omega (arith, start.requires, counts_long start.args.t, c.before.before.before.before.put_line-commit.ensures.ends, c.before.before.before.before.put_line-commit.auto))
+    (λ c κs. let start = c.before.before.before.before.before.before.before.before.before.before.before.before.before in omega (arith, start.requires, counts_long start.args.t, c.before.before.before.before.put_line-abort.ensures.ends, c.before.before.before.before.put_line-abort.auto, c.before.before.before.before.before.before.before.before.before.put_line-commit.ensures.ends, c.before.before.before.before.before.before.before.before.before.put_line-commit.auto))
+    (λ c κs. let start = c.before.before.before.before.before.before.before.before.before.before.before.before.before.before.before.before.before.before in omega (arith, start.requires, counts_long start.args.t, c.before.before.before.before.put_line-neither.ensures.ends, c.before.before.before.before.put_line-neither.auto, c.before.before.before.before.before.before.before.before.before.put_line-abort.ensures.ends, c.before.before.before.before.before.before.before.before.before.put_line-abort.auto, c.before.before.before.before.before.before.before.before.before.before.before.before.before.before.put_line-commit.ensures.ends, c.before.before.before.before.before.before.before.before.before.before.before.before.before.before.put_line-commit.auto))
     (λ c. search rules)
-    (λ c κs. let start = c.before.before.before.before.before.before.before.before in omega (arith, start.requires, counts_long start.args.t, c.before.before.before.before.put-line.ensures.ends, c.before.before.before.before.put-line.auto))
-    (λ c. search rules)
-    (λ c κs. let start = c.before.before.before.before.before.before.before.before.before.before.before.before.before in omega (arith, start.requires, counts_long start.args.t, c.before.before.before.before.put-line2.ensures.ends, c.before.before.before.before.put-line2.auto, c.before.before.before.before.before.before.before.before.before.put-line.ensures.ends, c.before.before.before.before.before.before.before.before.before.put-line.auto))
-    (λ c. search rules)
-    (λ c κs. let start = c.before.before.before.before.before.before.before.before.before.before.before.before.before.before.before.before.before.before in omega (arith, start.requires, counts_long start.args.t, c.before.before.before.before.put-line3.ensures.ends, c.before.before.before.before.put-line3.auto, c.before.before.before.before.before.before.before.before.before.put-line2.ensures.ends, c.before.before.before.before.before.before.before.before.before.put-line2.auto, c.before.before.before.before.before.before.before.before.before.before.before.before.before.before.put-line.ensures.ends, c.before.before.before.before.before.before.before.before.before.before.before.before.before.before.put-line.auto))
-    (λ c. search rules)
-    (λ c. put_then c.before.before.before.before.before.before.before.before.before.before.before.before.before.before.before.before.before.put-line.ensures (put_then c.before.before.before.before.before.before.before.before.before.before.before.before.put-line2.ensures (put_then c.before.before.before.before.before.before.before.put-line3.ensures c.before.before.put-line4.ensures))))
+    (λ c. put_then c.before.before.before.before.before.before.before.before.before.before.before.before.before.before.before.before.before.put_line-commit.ensures (put_then c.before.before.before.before.before.before.before.before.before.before.before.before.put_line-abort.ensures (put_then c.before.before.before.before.before.before.before.put_line-neither.ensures c.before.before.put_line.ensures))))

@@ -11,8 +11,8 @@ put_figures_spec =
     tie.close
     (tie.spec
     (λ c κs. let start = c.before.before.before in omega (arith, start.requires.1, figures_long start.args.f))
-    (λ c κs. let start = c.before.before.before.before.before.before.before in (start.requires.0, omega (arith, start.requires.1, figures_long start.args.f, c.before.before.before.put-counts.ensures.ends, c.before.before.before.put-counts.auto)))
-    (λ c κs. let start = c.before.before.before.before.before.before.before.before.before.before.before in omega (arith, start.requires.1, figures_long start.args.f, c.before.before.before.put-calls.ensures.ends, c.before.before.before.put-calls.auto, c.before.before.before.before.before.before.before.put-counts.ensures.ends, c.before.before.before.before.before.before.before.put-counts.auto))
-    (λ c κs. let start = c.before.before.before.before.before.before.before.before.before.before.before.before.before.before.before in omega (arith, start.requires.1, figures_long start.args.f, c.before.before.before.put-mean.ensures.ends, c.before.before.before.put-mean.auto, c.before.before.before.before.before.before.before.put-calls.ensures.ends, c.before.before.before.before.before.before.before.put-calls.auto, c.before.before.before.before.before.before.before.before.before.before.before.put-counts.ensures.ends, c.before.before.before.before.before.before.before.before.before.before.before.put-counts.auto))
+    (λ c κs. let start = c.before.before.before.before.before.before.before in (start.requires.0, omega (arith, start.requires.1, figures_long start.args.f, c.before.before.before.put_counts-counted.ensures.ends, c.before.before.before.put_counts-counted.auto)))
+    (λ c κs. let start = c.before.before.before.before.before.before.before.before.before.before.before in omega (arith, start.requires.1, figures_long start.args.f, c.before.before.before.put_calls-added.ensures.ends, c.before.before.before.put_calls-added.auto, c.before.before.before.before.before.before.before.put_counts-counted.ensures.ends, c.before.before.before.before.before.before.before.put_counts-counted.auto))
+    (λ c κs. let start = c.before.before.before.before.before.before.before.before.before.before.before.before.before.before.before in omega (arith, start.requires.1, figures_long start.args.f, c.before.before.before.put_mean-end.ensures.ends, c.before.before.before.put_mean-end.auto, c.before.before.before.before.before.before.before.put_calls-added.ensures.ends, c.before.before.before.before.before.before.before.put_calls-added.auto, c.before.before.before.before.before.before.before.before.before.before.before.put_counts-counted.ensures.ends, c.before.before.before.before.before.before.before.before.before.before.before.put_counts-counted.auto))
     (λ c. search rules)
-    (λ c. put_then c.before.before.before.before.before.before.before.before.before.before.before.before.before.before.put-counts.ensures (put_then c.before.before.before.before.before.before.before.before.before.before.put-calls.ensures (put_then c.before.before.before.before.before.before.put-mean.ensures c.before.before.put-largest.ensures))))
+    (λ c. put_then c.before.before.before.before.before.before.before.before.before.before.before.before.before.before.put_counts-counted.ensures (put_then c.before.before.before.before.before.before.before.before.before.before.put_calls-added.ensures (put_then c.before.before.before.before.before.before.put_mean-end.ensures c.before.before.put_largest.ensures))))

@@ -10,9 +10,7 @@ pub put_largest_spec : {M : Type 1} → statement M
 put_largest_spec =
     tie.close
     (tie.spec
-    (λ c. search rules)
     (λ c κs. let start = c.before.before.before in omega (arith, start.requires, largest_long start.args.largest start.args.first))
+    (λ c κs. let start = c.before.before.before.before.before.before.before.before in omega (arith, start.requires, largest_long start.args.largest start.args.first, c.before.before.before.before.put_number-end.ensures.ends, c.before.before.before.before.put_number-end.auto))
     (λ c. search rules)
-    (λ c κs. let start = c.before.before.before.before.before.before.before.before in omega (arith, start.requires, largest_long start.args.largest start.args.first, c.before.before.before.before.put_number.ensures.ends, c.before.before.before.before.put_number.auto))
-    (λ c. search rules)
-    (λ c. put_then c.before.before.before.before.before.before.before.put_number.ensures c.before.before.put-line.ensures))
+    (λ c. put_then c.before.before.before.before.before.before.before.put_number-end.ensures c.before.before.put_line.ensures))

@@ -11,7 +11,6 @@ put_line_spec =
     tie.close
     (tie.spec
     (λ c κs. let start = c.before.before.before in omega (arith, start.requires, line_long start.args.word.now start.args.k))
+    (λ c κs. let start = c.before.before.before.before.before.before.before.before in omega (arith, start.requires, line_long start.args.word.now start.args.k, c.before.before.before.before.put_number-end.ensures.ends, c.before.before.before.before.put_number-end.auto))
     (λ c. search rules)
-    (λ c κs. let start = c.before.before.before.before.before.before.before.before in omega (arith, start.requires, line_long start.args.word.now start.args.k, c.before.before.before.before.put_number.ensures.ends, c.before.before.before.before.put_number.auto))
-    (λ c. search rules)
-    (λ c. put_then c.before.before.before.before.before.before.before.put_number.ensures c.before.before.put.ensures))
+    (λ c. put_then c.before.before.before.before.before.before.before.put_number-end.ensures c.before.before.put.ensures))

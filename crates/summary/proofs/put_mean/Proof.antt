@@ -10,11 +10,8 @@ pub put_mean_spec : {M : Type 1} → statement M
 put_mean_spec =
     tie.close
     (tie.spec
-    (λ c. search rules)
     (λ c κs. let start = c.before.before.before in omega (arith, start.requires, mean_long start.args.mean start.args.remainder start.args.schedules))
+    (λ c κs. let start = c.before.before.before.before.before.before.before.before in omega (arith, start.requires, mean_long start.args.mean start.args.remainder start.args.schedules, c.before.before.before.before.put_number-whole.ensures.ends, c.before.before.before.before.put_number-whole.auto))
+    (λ c κs. let start = c.before.before.before.before.before.before.before.before.before.before.before.before.before in omega (arith, start.requires, mean_long start.args.mean start.args.remainder start.args.schedules, c.before.before.before.before.put_number-over.ensures.ends, c.before.before.before.before.put_number-over.auto, c.before.before.before.before.before.before.before.before.before.put_number-whole.ensures.ends, c.before.before.before.before.before.before.before.before.before.put_number-whole.auto))
     (λ c. search rules)
-    (λ c κs. let start = c.before.before.before.before.before.before.before.before in omega (arith, start.requires, mean_long start.args.mean start.args.remainder start.args.schedules, c.before.before.before.before.put_number.ensures.ends, c.before.before.before.before.put_number.auto))
-    (λ c. search rules)
-    (λ c κs. let start = c.before.before.before.before.before.before.before.before.before.before.before.before.before in omega (arith, start.requires, mean_long start.args.mean start.args.remainder start.args.schedules, c.before.before.before.before.put-number2.ensures.ends, c.before.before.before.before.put-number2.auto, c.before.before.before.before.before.before.before.before.before.put_number.ensures.ends, c.before.before.before.before.before.before.before.before.before.put_number.auto))
-    (λ c. search rules)
-    (λ c. put_then c.before.before.before.before.before.before.before.before.before.before.before.before.put_number.ensures (put_then c.before.before.before.before.before.before.before.put-number2.ensures c.before.before.put-line.ensures)))
+    (λ c. put_then c.before.before.before.before.before.before.before.before.before.before.before.before.put_number-whole.ensures (put_then c.before.before.before.before.before.before.before.put_number-over.ensures c.before.before.put_line.ensures)))

@@ -11,6 +11,6 @@ put_number_spec =
     tie.close
     (tie.spec
     (λ c κs. let start = c.before.before.before in omega (arith, start.requires, number_long start.args.word.now start.args.k))
-    (λ c κs. let start = c.before.before.before.before.before.before.before in omega (arith, start.requires, number_long start.args.word.now start.args.k, c.before.before.before.put.ensures.ends, c.before.before.before.put.auto))
+    (λ c κs. let start = c.before.before.before.before.before.before.before in omega (arith, start.requires, number_long start.args.word.now start.args.k, c.before.before.before.put-number.ensures.ends, c.before.before.before.put-number.auto))
     (λ c. search rules)
-    (λ c. put_then c.before.before.before.before.before.before.put.ensures c.before.before.put-decimal.ensures))
+    (λ c. put_then c.before.before.before.before.before.before.put-number.ensures c.before.before.put_decimal.ensures))

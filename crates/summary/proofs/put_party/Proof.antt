@@ -10,9 +10,7 @@ pub put_party_spec : {M : Type 1} → statement M
 put_party_spec =
     tie.close
     (tie.spec
-    (λ c. search rules)
     (λ c κs. let start = c.before.before.before in omega (arith, start.requires, party_long start.args.p start.args.k))
+    (λ c κs. let start = c.before.before.before.before.before.before.before.before in omega (arith, start.requires, party_long start.args.p start.args.k, c.before.before.before.before.put_number-calls.ensures.ends, c.before.before.before.before.put_number-calls.auto))
     (λ c. search rules)
-    (λ c κs. let start = c.before.before.before.before.before.before.before.before in omega (arith, start.requires, party_long start.args.p start.args.k, c.before.before.before.before.put_number.ensures.ends, c.before.before.before.before.put_number.auto))
-    (λ c. search rules)
-    (λ c. put_then c.before.before.before.before.before.before.before.put_number.ensures c.before.before.put-line.ensures))
+    (λ c. put_then c.before.before.before.before.before.before.before.put_number-calls.ensures c.before.before.put_line.ensures))

@@ -14,18 +14,18 @@ use Rattle.summary.proofs.summarize.Statement.{statement}
 use Rattle.summary.proofs.summarize.Tie as tie
 
 -- the text of the answer is the summary, and has room
-text : (c : tie.After-class-figures) → answer_text c.class-figures.result ≡ summary c.before.before.before.args.file.now
-text c = ap answer_text c.class-figures.ensures ∙ answer_text_lem c.before.before.before.args.file.now
+text : (c : tie.After-class_figures-answer) → answer_text c.class_figures-answer.result ≡ summary c.before.before.before.args.file.now
+text c = ap answer_text c.class_figures-answer.ensures ∙ answer_text_lem c.before.before.before.args.file.now
 
-fits : (c : tie.After-class-figures) → length (answer_text c.class-figures.result) ≤ longest_summary
+fits : (c : tie.After-class_figures-answer) → length (answer_text c.class_figures-answer.result) ≤ longest_summary
 fits c = omega (arith, ap length (text c), summary_fits c.before.before.before.args.file.now)
 
-sites : (c : tie.After-class-figures) → c.class-figures.result.figures.totals.sites ≤ places
-sites c = subst (λ (a : Answer). a.figures.totals.sites ≤ places) (sym c.class-figures.ensures) (answer_sites c.before.before.before.args.file.now)
+sites : (c : tie.After-class_figures-answer) → c.class_figures-answer.result.figures.totals.sites ≤ places
+sites c = subst (λ (a : Answer). a.figures.totals.sites ≤ places) (sym c.class_figures-answer.ensures) (answer_sites c.before.before.before.args.file.now)
 
 -- it stands at the front of the buffer
-front : (c : tie.After-put-answer) → take c.put-answer.result c.put-answer.new.0 ≡ answer_text c.before.before.class-figures.result
-front c = put_front c.put-answer.ensures (fits c.before.before)
+front : (c : tie.After-put_answer-length) → take c.put_answer-length.result c.put_answer-length.new.text ≡ answer_text c.before.before.class_figures-answer.result
+front c = put_front c.put_answer-length.ensures (fits c.before.before)
 
 pub summarize_spec : {M : Type 1} → statement M
 summarize_spec =
@@ -34,8 +34,8 @@ summarize_spec =
     (λ c κs. search rules)
     (λ c. search rules)
     (λ c κs. (sites c.before, fits c.before))
-    (λ c. omega (arith, fits c.before.before.before.before, c.before.before.put-answer.ensures.ends, c.before.before.put-answer.auto))
-    (λ c. omega (arith, ap length (front c.before.before.before), c.before.before.before.put-answer.ensures.ends))
+    (λ c. omega (arith, fits c.before.before.before.before, c.before.before.put_answer-length.ensures.ends, c.before.before.put_answer-length.auto))
+    (λ c. omega (arith, ap length (front c.before.before.before), c.before.before.before.put_answer-length.ensures.ends))
     (λ c κs. search rules)
     (λ c. search rules)
-    (λ c. let args = c.before.before.before.before.before.before.before.before.before.before.before.args in let whole = front c.before.before.before.before.before.before ∙ text c.before.before.before.before.before.before.before.before in let wrote = c.before.before.write-text.ensures in let answer = wrote.0 ∙ ap (text_answer (length args.text.now)) whole in (answer, ap written_hands answer, wrote.1 ∙ ap (text_left args.text.now) whole)))
+    (λ c. let args = c.before.before.before.before.before.before.before.before.before.before.before.args in let whole = front c.before.before.before.before.before.before ∙ text c.before.before.before.before.before.before.before.before in let wrote = c.before.before.write_text.ensures in let answer = wrote.0 ∙ ap (text_answer (length args.text.now)) whole in (answer, ap written_hands answer, wrote.1 ∙ ap (text_left args.text.now) whole)))

@@ -16,4 +16,4 @@ with_step_spec =
     (tie.spec
     (λ c. search rules)
     (λ c κs. search rules)
-    (λ c. let start = c.before.before.before.before.before in let put = c.before.put.ensures in record { size = ap length put.leaves ∙ length-sets start.args.self.bytes start.args.self.len start.args.added.now ∙ start.requires.0; long = put.ends; text = ap₂ (λ (j : ℕ) (b : List ℕ). take j b) put.ends put.leaves ∙ text_more start.args.self.bytes start.args.self.len start.args.added.now (omega (arith, start.requires.0, start.requires.1)) }))
+    (λ c. let start = c.before.before.before.before.before in let put = c.before.put-len.ensures in record { size = ap length put.leaves ∙ length-sets start.args.self.bytes start.args.self.len start.args.added.now ∙ start.requires.0; long = put.ends; text = ap₂ (λ (j : ℕ) (b : List ℕ). take j b) put.ends put.leaves ∙ text_more start.args.self.bytes start.args.self.len start.args.added.now (omega (arith, start.requires.0, start.requires.1)) }))
