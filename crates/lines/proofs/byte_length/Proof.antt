@@ -13,7 +13,7 @@ byte_length_spec =
     tie.close
     (tie.spec
     (λ c κs. search rules)
-    (λ c. omega (arith, c.before.word-length.ensures, word_few (outcome_in c.before.before.args.b)))
-    (λ c. omega (arith, c.before.word-length.ensures, word_few (outcome_in c.before.before.args.b)))
-    (λ c. omega (arith, c.before.word-length.ensures, byte_long c.before.before.args.b, ap length (closed_yes c.before.before.args.b c.if1.true)))
-    (λ c. omega (arith, c.before.word-length.ensures, byte_long c.before.before.args.b, ap length (closed_no c.before.before.args.b c.if1.false))))
+    (λ c. omega (arith, c.before.word_length-word.ensures, word_few (outcome_in c.before.before.args.b)))
+    (λ c. omega (arith, c.before.word_length-word.ensures, word_few (outcome_in c.before.before.args.b)))
+    (λ c. omega (arith, c.before.word_length-word.ensures, byte_long c.before.before.args.b, ap length (closed_yes c.before.before.args.b c.if-b-ge-CLOSED.true)))
+    (λ c. omega (arith, c.before.word_length-word.ensures, byte_long c.before.before.args.b, ap length (closed_no c.before.before.args.b c.if-b-ge-CLOSED.false))))

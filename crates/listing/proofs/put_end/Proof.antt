@@ -10,13 +10,10 @@ pub put_end_spec : {M : Type 1} → statement M
 put_end_spec =
     tie.close
     (tie.spec
-    (λ c. search rules)
     (λ c κs. search rules)
-    (λ c κs. (c.before.before.before.before.before.before.before.before.before.before.requires.0, omega (arith, c.before.before.before.put.ensures.ends, c.before.before.before.put.auto, c.before.before.before.before.before.before.before.before.before.before.requires.1, end_long c.before.before.before.before.before.before.before.before.before.before.args.r)))
+    (λ c κs. (c.before.before.before.before.before.before.before.before.before.before.requires.0, omega (arith, c.before.before.before.put-counts.ensures.ends, c.before.before.before.put-counts.auto, c.before.before.before.before.before.before.before.before.before.before.requires.1, end_long c.before.before.before.before.before.before.before.before.before.before.args.r)))
+    (λ c κs. omega (arith, c.before.before.before.before.before.before.before.before.put-counts.ensures.ends, c.before.before.before.before.before.before.before.before.put-counts.auto, c.before.before.before.before.put_counts-counted.ensures.ends, c.before.before.before.before.put_counts-counted.auto, c.before.before.before.before.before.before.before.before.before.before.before.before.before.before.before.requires.1, end_long c.before.before.before.before.before.before.before.before.before.before.before.before.before.before.before.args.r))
+    (λ c κs. (c.before.before.before.before.before.before.before.before.before.before.before.before.before.before.before.before.before.before.before.requires.0, omega (arith, c.before.before.before.before.before.before.before.before.before.before.before.before.put-counts.ensures.ends, c.before.before.before.before.before.before.before.before.before.before.before.before.put-counts.auto, c.before.before.before.before.before.before.before.before.put_counts-counted.ensures.ends, c.before.before.before.before.before.before.before.before.put_counts-counted.auto, c.before.before.before.put-next.ensures.ends, c.before.before.before.put-next.auto, c.before.before.before.before.before.before.before.before.before.before.before.before.before.before.before.before.before.before.before.requires.1, end_long c.before.before.before.before.before.before.before.before.before.before.before.before.before.before.before.before.before.before.before.args.r)))
+    (λ c κs. omega (arith, c.before.before.before.before.before.before.before.before.before.before.before.before.before.before.before.before.before.put-counts.ensures.ends, c.before.before.before.before.before.before.before.before.before.before.before.before.before.before.before.before.before.put-counts.auto, c.before.before.before.before.before.before.before.before.before.before.before.before.before.put_counts-counted.ensures.ends, c.before.before.before.before.before.before.before.before.before.before.before.before.before.put_counts-counted.auto, c.before.before.before.before.before.before.before.before.put-next.ensures.ends, c.before.before.before.before.before.before.before.before.put-next.auto, c.before.before.before.before.put_logs-logged.ensures.ends, c.before.before.before.before.put_logs-logged.auto, c.before.before.before.before.before.before.before.before.before.before.before.before.before.before.before.before.before.before.before.before.before.before.before.before.requires.1, end_long c.before.before.before.before.before.before.before.before.before.before.before.before.before.before.before.before.before.before.before.before.before.before.before.before.args.r))
     (λ c. search rules)
-    (λ c κs. omega (arith, c.before.before.before.before.before.before.before.before.put.ensures.ends, c.before.before.before.before.before.before.before.before.put.auto, c.before.before.before.before.put-counts.ensures.ends, c.before.before.before.before.put-counts.auto, c.before.before.before.before.before.before.before.before.before.before.before.before.before.before.before.requires.1, end_long c.before.before.before.before.before.before.before.before.before.before.before.before.before.before.before.args.r))
-    (λ c κs. (c.before.before.before.before.before.before.before.before.before.before.before.before.before.before.before.before.before.before.before.requires.0, omega (arith, c.before.before.before.before.before.before.before.before.before.before.before.before.put.ensures.ends, c.before.before.before.before.before.before.before.before.before.before.before.before.put.auto, c.before.before.before.before.before.before.before.before.put-counts.ensures.ends, c.before.before.before.before.before.before.before.before.put-counts.auto, c.before.before.before.put2.ensures.ends, c.before.before.before.put2.auto, c.before.before.before.before.before.before.before.before.before.before.before.before.before.before.before.before.before.before.before.requires.1, end_long c.before.before.before.before.before.before.before.before.before.before.before.before.before.before.before.before.before.before.before.args.r)))
-    (λ c. search rules)
-    (λ c κs. omega (arith, c.before.before.before.before.before.before.before.before.before.before.before.before.before.before.before.before.before.put.ensures.ends, c.before.before.before.before.before.before.before.before.before.before.before.before.before.before.before.before.before.put.auto, c.before.before.before.before.before.before.before.before.before.before.before.before.before.put-counts.ensures.ends, c.before.before.before.before.before.before.before.before.before.before.before.before.before.put-counts.auto, c.before.before.before.before.before.before.before.before.put2.ensures.ends, c.before.before.before.before.before.before.before.before.put2.auto, c.before.before.before.before.put-logs.ensures.ends, c.before.before.before.before.put-logs.auto, c.before.before.before.before.before.before.before.before.before.before.before.before.before.before.before.before.before.before.before.before.before.before.before.before.requires.1, end_long c.before.before.before.before.before.before.before.before.before.before.before.before.before.before.before.before.before.before.before.before.before.before.before.before.args.r))
-    (λ c. search rules)
-    (λ c. let r = c.before.before.before.before.before.before.before.before.before.before.before.before.before.before.before.before.before.before.before.before.before.before.before.before.before.before.before.args.r in rw (end_parts r) (put_then c.before.before.before.before.before.before.before.before.before.before.before.before.before.before.before.before.before.before.before.before.put.ensures (put_then c.before.before.before.before.before.before.before.before.before.before.before.before.before.before.before.before.put-counts.ensures (put_then c.before.before.before.before.before.before.before.before.before.before.before.put2.ensures (put_then c.before.before.before.before.before.before.before.put-logs.ensures c.before.before.put3.ensures))))))
+    (λ c. let r = c.before.before.before.before.before.before.before.before.before.before.before.before.before.before.before.before.before.before.before.before.before.before.before.before.before.before.before.args.r in rw (end_parts r) (put_then c.before.before.before.before.before.before.before.before.before.before.before.before.before.before.before.before.before.before.before.before.put-counts.ensures (put_then c.before.before.before.before.before.before.before.before.before.before.before.before.before.before.before.before.put_counts-counted.ensures (put_then c.before.before.before.before.before.before.before.before.before.before.before.put-next.ensures (put_then c.before.before.before.before.before.before.before.put_logs-logged.ensures c.before.before.put.ensures))))))

@@ -16,9 +16,9 @@ put_listing_spec =
     tie.close
     (tie.spec
     (λ c κs. search rules)
-    (λ c. omega (arith, c.lines-length.ensures, lines_few 1 c.before.before.before.before.args.bytes.now (omega arith)))
-    (λ c. let args = c.before.before.before.before.before.args in text_short args.text.now (byte_lines 1 args.bytes.now ++ args.last.now) (c.before.lines-length.result + length args.last.now) (omega (arith, c.before.lines-length.ensures, length-append (byte_lines 1 args.bytes.now) args.last.now)) c.if1.true)
+    (λ c. omega (arith, c.lines_length.ensures, lines_few 1 c.before.before.before.before.args.bytes.now (omega arith)))
+    (λ c. let args = c.before.before.before.before.before.args in text_short args.text.now (byte_lines 1 args.bytes.now ++ args.last.now) (c.before.lines_length.result + length args.last.now) (omega (arith, c.before.lines_length.ensures, length-append (byte_lines 1 args.bytes.now) args.last.now)) c.if-text-needed.true)
     (λ c κs. search rules)
     (λ c κs. search rules)
     (λ c. search rules)
-    (λ c. let args = c.before.before.before.before.before.before.before.before.before.before.before.before.before.args in text_fits args.text.now (byte_lines 1 args.bytes.now ++ args.last.now) (c.before.before.before.before.before.before.before.before.before.lines-length.result + length args.last.now) (omega (arith, c.before.before.before.before.before.before.before.before.before.lines-length.ensures, length-append (byte_lines 1 args.bytes.now) args.last.now)) c.before.before.before.before.before.before.before.before.if1.false (put_then c.before.before.before.before.before.before.put-lines.ensures c.before.before.put.ensures)))
+    (λ c. let args = c.before.before.before.before.before.before.before.before.before.before.before.before.before.args in text_fits args.text.now (byte_lines 1 args.bytes.now ++ args.last.now) (c.before.before.before.before.before.before.before.before.before.lines_length.result + length args.last.now) (omega (arith, c.before.before.before.before.before.before.before.before.before.lines_length.ensures, length-append (byte_lines 1 args.bytes.now) args.last.now)) c.before.before.before.before.before.before.before.before.if-text-needed.false (put_then c.before.before.before.before.before.before.put_lines-at.ensures c.before.before.put.ensures)))

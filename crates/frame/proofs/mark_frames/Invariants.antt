@@ -1,0 +1,16 @@
+-- `frame::mark_frames` meets its contract: at each turn one whole frame more has its line in the text. Assumes nothing.
+use mathlib.Core.Path.{◌≡◌, refl, ◌∙◌}
+use mathlib.Core.Logic.{inl, inr}
+use Prim.Native.Nat.{◌+◌, ◌-◌, ◌≤◌}
+use native.Mathlib.Omega.{arith}
+use lib.ListN.{length, drop}
+use borrow.Author.Rules.{rules}
+use Rattle.frame.specs.Frame.{WholeFrame}
+use Rattle.frame.proofs.Frames.{found_in, Marking, mark_none, frame_within, mark_next, marked}
+use Rattle.frame.proofs.mark_frames.Given as goal
+
+abbrev pub invariant-loop-text : goal.invariant-loop-text
+invariant-loop-text l = (l.used ≤ length l.input) × (l.filled ≤ length l.text) × (length l.report ≡ length l.initial.report) × (length l.text ≡ length l.initial.text) × Marking l.input l.initial.text l.initial.report l.used l.filled l.text l.report
+
+abbrev pub decreases-loop-text : goal.decreases-loop-text
+decreases-loop-text l = length l.input - l.used
