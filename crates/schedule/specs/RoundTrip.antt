@@ -1,5 +1,5 @@
 -- Nothing is lost between bytes and steps, either way, and a refusal is the first from the left. Proved in proofs/RoundTrip.antt. Assumes nothing.
-use Rattle.std.specs.Prelude.{◌≡◌, Bool, true, ◌&&◌, List, [], ◌∷◌, ◌++◌, ℕ, ◌+◌, ◌≤◌, ◌<◌, length}
+use Rattle.std.specs.Prelude.{◌≡◌, Bool, true, ◌&&◌, List, [], ◌∷◌, ◌++◌, ℕ, ◌≤◌, ◌<◌, length}
 use Rattle.number.specs.Refusal.{empty_or_too_long}
 use Rattle.kind.specs.Step.{AllInRange}
 use Rattle.schedule.specs.Types.{Step, Header, Record, Before, Read}

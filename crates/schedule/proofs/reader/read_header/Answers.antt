@@ -1,11 +1,8 @@
 -- `schedule::reader::read_header` meets its contract, case by case. Assumes nothing.
 use mathlib.Core.Path.{sym, ap, ◌∙◌}
-use Rattle.schedule.specs.Types.{Before}
 use Rattle.schedule.specs.Record.{record_header}
-use Rattle.schedule.specs.Context.{context_of, first_of, ranged_header}
-use Rattle.schedule.proofs.Tests.{found_refused, found_known}
-use Rattle.schedule.proofs.WithMask.{first_ranged, first_misplaced}
-use borrow.Author.Rules.{rules}
+use Rattle.schedule.specs.Context.{context_of, ranged_header}
+use Rattle.schedule.proofs.WithMask.{first_ranged}
 use Rattle.schedule.proofs.reader.read_header.Goals as goal
 
 pub returns-then-is_header : goal.returns-then-is_header

@@ -1,9 +1,8 @@
 -- `schedule::reader::read_record` meets its contract: the mask that it reads with is that of the header's n. Assumes nothing.
 use mathlib.Core.Path.{ap, ◌∙◌}
 use Rattle.schedule.specs.Reader.{read_hands}
-use Rattle.schedule.specs.Context.{first_read, read_with}
-use Rattle.schedule.proofs.WithMask.{read_same, first_read_lem}
-use borrow.Author.Rules.{rules}
+use Rattle.schedule.specs.Context.{read_with}
+use Rattle.schedule.proofs.WithMask.{read_same}
 use Rattle.schedule.proofs.reader.read_record.Goals as goal
 
 pub returns-in-Header : goal.returns-in-Header

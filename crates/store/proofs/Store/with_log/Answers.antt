@@ -1,13 +1,10 @@
 -- `Store::with_log` meets its contract: a place past the last log changes nothing, and neither does a log that is as it was. Assumes nothing.
-use mathlib.Core.Path.{◌≡◌, sym, ap, ◌∙◌}
+use mathlib.Core.Path.{sym, ap, ◌∙◌}
 use mathlib.Core.List.{List}
-use native.Mathlib.Omega.{arith}
-use lib.ListN.{length, set, length-map}
-use lib.Seq.{set_out, set-get_or}
+use lib.ListN.{set}
+use lib.Seq.{set-get_or}
 use Rattle.store.specs.Types.{LogPair}
-use Rattle.store.specs.Log.{places}
 use Rattle.store.proofs.Numbers.{same_log}
-use borrow.Author.Rules.{rules}
 use Rattle.store.proofs.Store.with_log.Goals as goal
 
 pub returns-then-same : goal.returns-then-same
