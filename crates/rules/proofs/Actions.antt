@@ -17,7 +17,7 @@ use Rattle.rules.specs.Report.{moves, step_byte}
 use Rattle.rules.specs.Step.{take_out, idle, called, participant_to, participant_goes, coordinator_to, coordinator_goes, receive, participant_answered, participant_performed, participant_calls, coordinator_answered, coordinator_performed, coordinator_calls, calls, step}
 use Rattle.rules.specs.Actions.{NotDueStays, SameButMessages, OthersInFlight, Lost, CopyLikeDelivery, MessagesAsWritten, pending_call, CallMade, CallAsWritten, CallsAsWritten, ParticipantGoesTo, CoordinatorGoesTo, GoAsRuled, RestartsAsWritten}
 use Rattle.rules.specs.OneParty.{OthersStay}
-use Rattle.rules.specs.Types.{Logged, Performed, Message, Sent, Participant, Waiting, Closing, Down, Transition, NotDue, To, Coordinator, CoordinatorTransition, Site, Release, Step, Start, Deliver, Copy, Lose, Timeout, Crash, Restart, Report}
+use Rattle.rules.specs.Types.{Logged, Performed, Message, Sent, Participant, Closing, Down, Transition, NotDue, To, Coordinator, CoordinatorTransition, Site, Release, Step, Start, Deliver, Copy, Lose, Timeout, Crash, Restart, Report}
 use Rattle.rules.proofs.Cases.{crash_cases, restart_cases, reply_yes_cases, reply_abort_cases, coordinator_crash_cases, coordinator_restart_cases, enters_cases}
 use Rattle.rules.proofs.Due.{participant_due, coordinator_due, coordinator_leads, coordinator_goes_moves, enters_leads}
 use Rattle.rules.proofs.Messages.{same_message}

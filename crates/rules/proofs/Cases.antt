@@ -5,7 +5,7 @@ use Prim.Native.Nat.{ℕ}
 use Rattle.mask.specs.Mask.{insert}
 use Rattle.participant.specs.Participant
 use Rattle.coordinator.specs.Coordinator
-use Rattle.rules.specs.Types.{LogRecord, None, Yes, Abort, Commit, Message, Sent, Decision, Participant, Waiting, VotingYes, Closing, Uncertain, Terminating, RecordingCommit, RecordingAbort, DoneCommit, DoneAbort, Down, Transition, NotDue, To, Coordinator, CoordinatorTransition}
+use Rattle.rules.specs.Types.{LogRecord, None, Yes, Abort, Commit, Message, Sent, Decision, Participant, Waiting, VotingYes, Closing, Uncertain, Terminating, RecordingCommit, RecordingAbort, DoneCommit, DoneAbort, Down, Transition, NotDue, Coordinator, CoordinatorTransition}
 
 -- a test, and what it picks
 pub cond_cases {ℓ} : {A : Type ℓ} (P : A → Type 0) (b : Bool) (x y : A) → (b ≡ true → P x) → (b ≡ false → P y) → P (cond b x y)

@@ -11,7 +11,7 @@ use Rattle.rules.specs.State.{participant_of, log_of, in_flight}
 use Rattle.rules.specs.Report.{moves}
 use Rattle.rules.specs.Step.{called, take_out, idle, moved, receive, participant_answered, participant_performed, participant_calls, coordinator_answered, coordinator_performed, coordinator_calls, calls}
 use Rattle.rules.specs.Due.{in_states, can_get, answerable, call_due, DueAsWritten}
-use Rattle.rules.specs.Types.{LogRecord, None, Yes, Abort, Commit, LogPair, Call, Logged, Performed, Participant, Waiting, VotingYes, Closing, Uncertain, Terminating, RecordingCommit, RecordingAbort, DoneCommit, DoneAbort, Down, Transition, NotDue, To, Coordinator, CoordinatorTransition, Release, Step, Start, Deliver, Copy, Lose, Timeout, Crash, Restart, Report}
+use Rattle.rules.specs.Types.{LogRecord, None, Yes, Abort, Commit, LogPair, Logged, Performed, Participant, Waiting, VotingYes, Closing, Uncertain, Terminating, RecordingCommit, RecordingAbort, DoneCommit, DoneAbort, Down, Transition, NotDue, To, Coordinator, CoordinatorTransition, Release, Step, Start, Deliver, Copy, Lose, Timeout, Crash, Restart, Report}
 use Rattle.rules.proofs.Due.{participant_due, coordinator_due, leads, coordinator_leads, goes_moves, coordinator_goes_moves, enters_leads}
 use Rattle.rules.proofs.Actions.{receive_moves}
 

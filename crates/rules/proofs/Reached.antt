@@ -19,7 +19,7 @@ use Rattle.rules.specs.State.{participant_of, participant_at, log_of, log_at, fi
 use Rattle.rules.specs.Step.{called, send, send_all, take_out, with_mask, with_participant, participant_to, with_coordinator, coordinator_to, coordinator_goes, receive, step}
 use Rattle.rules.specs.Run.{after}
 use Rattle.rules.specs.Range.{ReleaseInRange, ReachedInRange, LogsKept, ReachedKept}
-use Rattle.rules.specs.Types.{LogRecord, None, Yes, Abort, Commit, LogPair, Participant, Waiting, Site, Sent, Decision, NotDue, To, Coordinator, CoordinatorTransition, Message, Step, Release, Report}
+use Rattle.rules.specs.Types.{LogRecord, None, Yes, Abort, Commit, LogPair, Participant, Waiting, Site, Sent, Decision, Coordinator, CoordinatorTransition, Message, Step, Release, Report}
 use Rattle.rules.proofs.FirstRecords.{Keep}
 use Rattle.rules.proofs.Invariant.{Inv, Allowed}
 use Rattle.rules.proofs.Updates.{set_all, mask_all, Good}

@@ -11,7 +11,7 @@ use Rattle.rules.specs.State.{participant_of, log_of, first_of, last_of}
 use Rattle.rules.specs.Report.{with_closed}
 use Rattle.rules.specs.Step.{called, take_out, moved, participant_to, participant_goes, coordinator_to, coordinator_goes, receive, step}
 use Rattle.kind.specs.Step.{in_range}
-use Rattle.rules.specs.Types.{LogRecord, LogPair, Call, Logged, Performed, Participant, Sent, Decision, Transition, NotDue, To, Coordinator, CoordinatorTransition, Message, Step, Release, Report}
+use Rattle.rules.specs.Types.{LogRecord, LogPair, Call, Logged, Performed, Participant, Sent, Decision, Transition, NotDue, To, CoordinatorTransition, Message, Step, Release, Report}
 use Rattle.rules.proofs.FirstRecords.{still, Keeps, keeps_refl, keeps_trans}
 use Rattle.rules.proofs.Invariant.{Tells, Inv, participant_claim, coordinator_claim}
 use Rattle.rules.proofs.Updates.{take_out_inv, Change, called_at, called_keeps, called_inv, Good, idle_good, participant_good, coordinator_good}

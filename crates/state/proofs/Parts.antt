@@ -9,7 +9,6 @@ use lib.ListN.{length, get_or, drop, set, length-map, length-set, get_or-map}
 use Rattle.store.specs.Log.{places}
 use Rattle.participant.specs.Participant
 use Rattle.participant.proofs.Numbers.{participant_numbers}
-use Rattle.coordinator.specs.Coordinator
 use Rattle.coordinator.proofs.Numbers.{coordinator_numbers}
 use Rattle.rules.specs.State.{types, waiting, participant_of, message_place, mask_of}
 use Rattle.rules.specs.Step.{with_mask, with_participant, with_coordinator, counted}

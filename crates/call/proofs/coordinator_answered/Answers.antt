@@ -2,8 +2,7 @@
 use mathlib.Core.Path.{refl}
 use native.Mathlib.Omega.{arith}
 use Rattle.rules.specs.Step.{moved}
-use Rattle.call.proofs.Calling.{idles_on, after_called}
-use borrow.Author.Rules.{rules}
+use Rattle.call.proofs.Calling.{after_called}
 use Rattle.call.proofs.coordinator_answered.Goals as goal
 
 pub returns-then-heard : goal.returns-then-heard

@@ -4,7 +4,6 @@ use Rattle.store.specs.Log.{perform}
 use Rattle.coordinator.specs.Coordinator
 use Rattle.rules.specs.Step.{coordinator_performed, coordinator_calls}
 use Rattle.call.proofs.Calling.{reads_called}
-use borrow.Author.Rules.{rules}
 use Rattle.call.proofs.coordinator_calls.Goals as goal
 
 pub returns : goal.returns

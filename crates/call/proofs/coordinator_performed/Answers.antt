@@ -2,8 +2,7 @@
 use lib.Dec.{lit<}
 use Rattle.coordinator.specs.Coordinator
 use Rattle.rules.specs.Step.{coordinator_answered}
-use Rattle.call.proofs.Calling.{idles_on, reads_called}
-use borrow.Author.Rules.{rules}
+use Rattle.call.proofs.Calling.{reads_called}
 use Rattle.call.proofs.coordinator_performed.Goals as goal
 
 pub returns-in-Done : goal.returns-in-Done

@@ -5,8 +5,7 @@ use native.Mathlib.Omega.{arith}
 use native.Mathlib.Numerals.{add-one}
 use Rattle.rules.specs.Step.{moved}
 use Rattle.effect.proofs.Leading.{under}
-use Rattle.call.proofs.Calling.{idles_on, after_called}
-use borrow.Author.Rules.{rules}
+use Rattle.call.proofs.Calling.{after_called}
 use Rattle.call.proofs.participant_answered.Goals as goal
 
 pub returns-then-heard : goal.returns-then-heard

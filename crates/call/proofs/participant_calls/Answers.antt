@@ -3,7 +3,6 @@ use Rattle.store.specs.Log.{perform}
 use Rattle.participant.specs.Participant
 use Rattle.rules.specs.Step.{participant_performed, participant_calls}
 use Rattle.call.proofs.Calling.{reads_called}
-use borrow.Author.Rules.{rules}
 use Rattle.call.proofs.participant_calls.Goals as goal
 
 pub returns : goal.returns

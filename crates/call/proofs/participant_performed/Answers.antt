@@ -1,8 +1,7 @@
 -- `call::participant_performed` meets its contract, case by case. Assumes nothing.
 use Rattle.participant.specs.Participant
 use Rattle.rules.specs.Step.{participant_answered}
-use Rattle.call.proofs.Calling.{idles_on, reads_called}
-use borrow.Author.Rules.{rules}
+use Rattle.call.proofs.Calling.{reads_called}
 use Rattle.call.proofs.participant_performed.Goals as goal
 
 pub returns-in-Done : goal.returns-in-Done

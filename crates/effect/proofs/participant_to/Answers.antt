@@ -1,6 +1,5 @@
 -- `effect::participant_to` meets its contract, case by case. Assumes nothing.
 use Rattle.effect.proofs.Leading.{participant_goes_lem}
-use borrow.Author.Rules.{rules}
 use Rattle.effect.proofs.participant_to.Goals as goal
 
 pub returns : goal.returns

@@ -5,7 +5,6 @@ use Rattle.coordinator.specs.Coordinator
 use Rattle.effect.specs.Types.{Sent, Decision}
 use Rattle.rules.specs.Step.{participant_to, coordinator_goes}
 use Rattle.effect.proofs.Leading.{under, reads}
-use borrow.Author.Rules.{rules}
 use Rattle.effect.proofs.receive.Goals as goal
 
 pub returns-in-Request : goal.returns-in-Request

@@ -1,7 +1,6 @@
 -- `effect::send` meets its contract, case by case. Assumes nothing.
 use Rattle.mask.specs.Mask.{insert}
 use Rattle.effect.proofs.Leading.{masks}
-use borrow.Author.Rules.{rules}
 use Rattle.effect.proofs.send.Goals as goal
 
 pub returns-in-Sends : goal.returns-in-Sends

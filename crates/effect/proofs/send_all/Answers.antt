@@ -1,6 +1,5 @@
 -- `effect::send_all` meets its contract, case by case. Assumes nothing.
 use Rattle.effect.proofs.Leading.{masks_all}
-use borrow.Author.Rules.{rules}
 use Rattle.effect.proofs.send_all.Goals as goal
 
 pub returns-in-Sends : goal.returns-in-Sends

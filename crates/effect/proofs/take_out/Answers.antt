@@ -1,7 +1,6 @@
 -- `effect::take_out` meets its contract, case by case. Assumes nothing.
 use Rattle.mask.specs.Mask.{remove}
 use Rattle.effect.proofs.Leading.{masks}
-use borrow.Author.Rules.{rules}
 use Rattle.effect.proofs.take_out.Goals as goal
 
 pub returns : goal.returns

@@ -1,12 +1,11 @@
 -- `frame::mark_frames` meets its contract: at each turn one whole frame more has its line in the text. Assumes nothing.
-use mathlib.Core.Path.{◌≡◌, refl, ◌∙◌}
-use mathlib.Core.Logic.{inl, inr}
-use Prim.Native.Nat.{◌+◌, ◌-◌, ◌≤◌}
+use mathlib.Core.Path.{refl, ◌∙◌}
+use Prim.Native.Nat.{◌-◌}
 use native.Mathlib.Omega.{arith}
-use lib.ListN.{length, drop}
+use lib.ListN.{drop}
 use borrow.Author.Rules.{rules}
 use Rattle.frame.specs.Frame.{WholeFrame}
-use Rattle.frame.proofs.Frames.{found_in, Marking, mark_none, frame_within, mark_next, marked}
+use Rattle.frame.proofs.Frames.{found_in, mark_none, frame_within, mark_next}
 use Rattle.frame.proofs.mark_frames.Goals as goal
 
 pub loop-text-init : goal.loop-text-init

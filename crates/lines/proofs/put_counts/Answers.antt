@@ -1,9 +1,7 @@
 -- `lines::put_counts` meets its contract: what is left to put, after what was put, is the whole. Assumes nothing.
-use Prim.Native.Nat.{suc, ◌-◌, ◌≤◌}
+use Prim.Native.Nat.{suc, ◌-◌}
 use native.Mathlib.Omega.{arith}
-use lib.ListN.{length, take}
-use borrow.Author.Rules.{rules}
-use Rattle.text.proofs.Putting.{Putting, put_none, put_then}
+use Rattle.text.proofs.Putting.{put_then}
 use Rattle.lines.specs.Lines.{count_text}
 use Rattle.lines.proofs.Front.{front_room, front_next, front_all}
 use Rattle.lines.proofs.put_counts.Goals as goal

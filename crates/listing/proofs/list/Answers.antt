@@ -3,7 +3,6 @@ use mathlib.Core.Path.{◌≡◌, sym, ap, ◌∙◌}
 use mathlib.Core.List.{List}
 use Prim.Native.Nat.{ℕ}
 use lib.ListN.{length}
-use borrow.Author.Rules.{rules}
 use Rattle.schedule.specs.Record.{header_record, record_length}
 use Rattle.schedule.specs.Schedule.{read_schedule}
 use Rattle.writer.specs.Writer.{text_answer, text_left, written_hands}
@@ -13,7 +12,7 @@ use Rattle.passes.proofs.Passed.{passed}
 use Rattle.passes.proofs.Begun.{begun, fresh_back}
 use Rattle.listing.specs.Types.{Header, Context, Validated}
 use Rattle.listing.specs.Listing.{reading_text, listing}
-use Rattle.listing.proofs.Listed.{refused_text, text_from}
+use Rattle.listing.proofs.Listed.{text_from}
 use Rattle.listing.proofs.list.Goals as goal
 
 -- the text of a run from the fresh release of a schedule's header is its listing

@@ -1,19 +1,18 @@
 -- `listing::list_from` meets its contract: the listing of steps from a tail, or the refusal's line. Assumes nothing.
-use mathlib.Core.Path.{◌≡◌, sym, ap, ◌∙◌}
+use mathlib.Core.Path.{◌≡◌, ap, ◌∙◌}
 use mathlib.Core.List.{List}
 use Prim.Native.Nat.{ℕ}
 use lib.ListN.{length}
-use borrow.Author.Rules.{rules}
 use Rattle.writer.specs.Writer.{text_answer, text_left, written_hands}
 use Rattle.kind.specs.declared.Kind.{Kind}
 use Rattle.state.specs.Fields.{release_in}
 use Rattle.passes.specs.Pass.{validated, reading_from}
 use Rattle.start.specs.declared.Start.{Start}
 use Rattle.start.specs.Start.{start_release, read_under, read_from, StartOf}
-use Rattle.start.proofs.Begun.{passed_from, steps_from_lem, was_read, at_once, start_back, started}
+use Rattle.start.proofs.Begun.{steps_from_lem, was_read, at_once, start_back, started}
 use Rattle.listing.specs.Types.{Context, Validated}
 use Rattle.listing.specs.Listing.{reading_text, listing_from}
-use Rattle.listing.proofs.Listed.{refused_text, text_from}
+use Rattle.listing.proofs.Listed.{text_from}
 use Rattle.listing.proofs.list_from.Goals as goal
 
 -- the text of a run from the start of a tail is its listing

@@ -3,7 +3,6 @@ use mathlib.Core.Path.{◌≡◌, sym, ap, ◌∙◌}
 use mathlib.Core.List.{List}
 use Prim.Native.Nat.{ℕ}
 use lib.ListN.{length}
-use borrow.Author.Rules.{rules}
 use Rattle.schedule.specs.Record.{header_record, record_length}
 use Rattle.schedule.specs.Schedule.{read_schedule}
 use Rattle.writer.specs.Writer.{written_hands}
@@ -13,7 +12,7 @@ use Rattle.passes.proofs.Passed.{passed}
 use Rattle.passes.proofs.Begun.{begun, fresh_back}
 use Rattle.marker.specs.Types.{Header, Context, Written, Validated}
 use Rattle.marker.specs.Run.{reading_answer, reading_leaves, run_answers, run_leaves}
-use Rattle.marker.proofs.Ran.{run_refused, left_from}
+use Rattle.marker.proofs.Ran.{left_from}
 use Rattle.marker.proofs.run.Goals as goal
 
 -- the report that is written from the fresh release of a schedule's header is the run's

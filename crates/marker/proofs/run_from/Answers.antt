@@ -1,19 +1,18 @@
 -- `marker::run_from` meets its contract: the first pass refuses, or the report is written from the release of the tail. Assumes nothing.
-use mathlib.Core.Path.{◌≡◌, sym, ap, ◌∙◌}
+use mathlib.Core.Path.{◌≡◌, ap, ◌∙◌}
 use mathlib.Core.List.{List}
 use Prim.Native.Nat.{ℕ}
 use lib.ListN.{length}
-use borrow.Author.Rules.{rules}
 use Rattle.writer.specs.Writer.{written_hands}
 use Rattle.kind.specs.declared.Kind.{Kind}
 use Rattle.state.specs.Fields.{release_in}
 use Rattle.passes.specs.Pass.{validated, reading_from}
 use Rattle.start.specs.declared.Start.{Start}
 use Rattle.start.specs.Start.{start_release, read_under, read_from, StartOf}
-use Rattle.start.proofs.Begun.{passed_from, steps_from_lem, at_once, start_back, started}
+use Rattle.start.proofs.Begun.{steps_from_lem, at_once, start_back, started}
 use Rattle.marker.specs.Types.{Context, Written, Validated}
 use Rattle.marker.specs.Run.{reading_answer, reading_leaves, run_from_answers, run_from_leaves}
-use Rattle.marker.proofs.Ran.{run_refused, left_from}
+use Rattle.marker.proofs.Ran.{left_from}
 use Rattle.marker.proofs.run_from.Goals as goal
 
 -- the report that is written from the start of a tail is the run's

@@ -1,6 +1,6 @@
 -- `passes::count_steps` meets its contract: what is left to count, beside what was counted, is the whole. Assumes nothing.
-use mathlib.Core.Path.{◌≡◌, refl, sym, ap, ap₂, ◌∙◌}
-use Prim.Native.Nat.{ℕ, ◌+◌, ◌-◌, ◌≤◌, ◌<◌}
+use mathlib.Core.Path.{◌≡◌, sym, ap, ap₂, ◌∙◌}
+use Prim.Native.Nat.{ℕ, ◌+◌, ◌-◌, ◌<◌}
 use native.Mathlib.Omega.{arith}
 use native.Mathlib.Nat.{add-zero}
 use mathlib.Core.List.{List}
@@ -11,7 +11,7 @@ use Rattle.schedule.specs.Context.{context_of, read_with}
 use Rattle.schedule.proofs.Records.{read_yielded}
 use Rattle.schedule.proofs.WithMask.{read_same}
 use Rattle.passes.specs.Types.{Header, Context, Record, Before, Read, Validated}
-use Rattle.passes.specs.Pass.{reading_from, validated_after, validated}
+use Rattle.passes.specs.Pass.{reading_from, validated_after}
 use Rattle.passes.proofs.Reading.{First, tail_part, read_first, read_refused, none_left, count_more}
 use Rattle.passes.proofs.count_steps.Goals as goal
 

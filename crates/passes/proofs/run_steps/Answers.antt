@@ -1,10 +1,9 @@
 -- `passes::run_steps` meets its contract: what holds while the steps run stands in Going. Assumes nothing.
-use mathlib.Core.Path.{◌≡◌, sym, ap, ◌∙◌}
+use mathlib.Core.Path.{sym, ap, ◌∙◌}
 use Rattle.schedule.specs.Reader.{step_at, length_at}
-use Rattle.schedule.specs.Record.{record_step}
 use Rattle.call.proofs.Calling.{stays}
 use Rattle.passes.proofs.Reading.{tail_part}
-use Rattle.passes.proofs.Going.{Going, Here, set_out, countable, ranged, has_room, go_on, here_read, arrived}
+use Rattle.passes.proofs.Going.{Here, set_out, countable, ranged, has_room, go_on, here_read, arrived}
 use Rattle.passes.proofs.run_steps.Goals as goal
 use Rattle.passes.proofs.run_steps.Goals.{then-makes_call, else-makes_call}
 
@@ -35,12 +34,12 @@ loop-at-preserved c =
     let same = c.step_at-s.ensures ∙ ap step_at (tail_part c.args.schedule.now c.loop-at.at) ∙ x.same_step in
     let size = c.length_at-size.ensures ∙ ap length_at (tail_part c.args.schedule.now c.loop-at.at) ∙ x.same_size in
     elim c.if-makes_call.branch [
-      then-makes_call w ↦
-        rw (w.numbers-is, w.report-is, w.left-is, size, w.report_byte.ensures)
-        (go_on c.loop-at.invariant c.loop-at-test.true x.found x.size x.read _ _ _ _ (rw same at w.with_call-stepped.ensures))
-    | else-makes_call w ↦
-        rw (w.numbers-is, w.report-is, w.left-is, size, w.report_byte-else-makes_call.ensures)
-        (go_on c.loop-at.invariant c.loop-at-test.true x.found x.size x.read _ _ _ _ (stays _ _ _ _ _ _ (rw same at w.without_call.ensures)))
+      | then-makes_call w ↦
+          rw (w.numbers-is, w.report-is, w.left-is, size, w.report_byte.ensures)
+          (go_on c.loop-at.invariant c.loop-at-test.true x.found x.size x.read _ _ _ _ (rw same at w.with_call-stepped.ensures))
+      | else-makes_call w ↦
+          rw (w.numbers-is, w.report-is, w.left-is, size, w.report_byte-else-makes_call.ensures)
+          (go_on c.loop-at.invariant c.loop-at-test.true x.found x.size x.read _ _ _ _ (stays _ _ _ _ _ _ (rw same at w.without_call.ensures)))
     ]
 
 pub returns : goal.returns

@@ -1,18 +1,16 @@
 -- `passes::validate` meets its contract: too long, a refusal of the header, or the count of the steps after it. Assumes nothing.
-use mathlib.Core.Path.{◌≡◌, sym, ap, ◌∙◌}
+use mathlib.Core.Path.{◌≡◌, sym}
 use mathlib.Core.List.{List}
 use native.Mathlib.Omega.{arith}
 use lib.ListN.{length}
 use Prim.Native.Nat.{ℕ, ◌≤◌}
-use borrow.Author.Tests.{lt-ltb, le-ltb}
-use borrow.Author.Rules.{rules}
+use borrow.Author.Tests.{le-ltb}
 use Rattle.schedule.specs.Record.{longest}
 use Rattle.schedule.specs.Reader.{reader_answers}
 use Rattle.schedule.specs.Schedule.{steps_after, read_schedule}
 use Rattle.schedule.proofs.Records.{read_yielded}
-use Rattle.schedule.proofs.WithMask.{begins_with, begins_refused}
+use Rattle.schedule.proofs.WithMask.{begins_with}
 use Rattle.passes.specs.Types.{Before, Read}
-use Rattle.passes.specs.Pass.{validated, reading_from}
 use Rattle.passes.proofs.validate.Goals as goal
 
 -- what stands at the beginning of a schedule that is not too long

@@ -7,7 +7,6 @@ use Rattle.coordinator.specs.Coordinator
 use Rattle.release.specs.Types.{Step}
 use Rattle.rules.specs.Step.{participant_goes, coordinator_goes, step}
 use Rattle.effect.proofs.Leading.{under, reads, numbered}
-use borrow.Author.Rules.{rules}
 use Rattle.release.proofs.crash.Goals as goal
 
 pub returns-then-p-eq0 : goal.returns-then-p-eq0

@@ -2,7 +2,6 @@
 use Rattle.mask.specs.Mask.{remove}
 use Rattle.rules.specs.Step.{receive, take_out}
 use Rattle.effect.proofs.Leading.{in_flight_leads, no_flight_leads, after_mask}
-use borrow.Author.Rules.{rules}
 use Rattle.release.proofs.deliver.Goals as goal
 
 pub returns-then-in_flight : goal.returns-then-in_flight

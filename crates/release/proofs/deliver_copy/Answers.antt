@@ -1,7 +1,6 @@
 -- `release::deliver_copy` meets its contract, case by case. Assumes nothing.
 use Rattle.rules.specs.Step.{receive}
 use Rattle.effect.proofs.Leading.{in_flight_leads, no_flight_leads}
-use borrow.Author.Rules.{rules}
 use Rattle.release.proofs.deliver_copy.Goals as goal
 
 pub returns-then-in_flight : goal.returns-then-in_flight

@@ -3,7 +3,6 @@ use mathlib.Core.Path.{refl}
 use Rattle.mask.specs.Mask.{remove, full}
 use Rattle.rules.specs.Step.{moved, take_out}
 use Rattle.effect.proofs.Leading.{in_flight_leads, no_flight_leads, after_mask}
-use borrow.Author.Rules.{rules}
 use Rattle.release.proofs.lose.Goals as goal
 
 pub returns-then-in_flight : goal.returns-then-in_flight

@@ -62,13 +62,15 @@ loop-c-preserved t c =
     let more = c.loop-c-test.true in
     let size = c.length_at-size.ensures ∙ size_here g some trying more in
     let here = c.step_at-s.ensures ∙ step_here g some trying more in
-    let leads = rw here at c.step-stepped.ensures in
-    (some, elim c.if-moves.branch [
-      then-moves w ↦
-        rw (w.out-is, w.now-is, w.place-is, size)
-        (went g some trying more leads (sym c.moves.ensures ∙ w.if-moves.true) (extends_here g some trying more _ size w.with_step-next.ensures) w.list-place.ensures)
-    | else-moves w ↦ rw (w.out-is, w.now-is, w.place-is, size) (stayed g some trying more leads (sym c.moves.ensures ∙ w.if-moves.false))
-    ])
+    let leads = rw here at c.step-stepped.ensures in (
+      some,
+      elim c.if-moves.branch [
+        | then-moves w ↦
+            rw (w.out-is, w.now-is, w.place-is, size)
+            (went g some trying more leads (sym c.moves.ensures ∙ w.if-moves.true) (extends_here g some trying more _ size w.with_step-next.ensures) w.list-place.ensures)
+        | else-moves w ↦ rw (w.out-is, w.now-is, w.place-is, size) (stayed g some trying more leads (sym c.moves.ensures ∙ w.if-moves.false))
+      ],
+    )
 
 pub returns : goal.returns
 returns t c = arrived c.requires.0 c.loop-c.invariant.0 c.loop-c.invariant.1 c.loop-c-test.false

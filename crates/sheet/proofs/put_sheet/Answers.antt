@@ -2,10 +2,8 @@
 use mathlib.Core.Path.{sym, ap}
 use Prim.Native.Nat.{◌≤◌}
 use native.Mathlib.Omega.{arith}
-use lib.Dec.{lit≤}
 use lib.ListN.{length}
 use lib.Seq.{length-take-le}
-use borrow.Author.Rules.{rules}
 use Rattle.text.proofs.Putting.{put_front, put_same}
 use Rattle.sheet.proofs.Bytes.{steps_most}
 use Rattle.sheet.proofs.Whole.{sites, records, starts, whole, front_ends}

@@ -1,10 +1,7 @@
 -- `sheet::put_steps` meets its contract: what is left to put, after what was put, is the whole. Assumes nothing.
 use mathlib.Core.Path.{sym, ◌∙◌}
-use Prim.Native.Nat.{◌-◌, ◌≤◌}
+use Prim.Native.Nat.{◌-◌}
 use native.Mathlib.Omega.{arith}
-use borrow.Author.Rules.{rules}
-use Rattle.text.proofs.Putting.{Putting, put_none}
-use Rattle.sheet.specs.Level.{choices, choice_bytes}
 use Rattle.sheet.proofs.Bytes.{steps_most, choice_fits, put_choice, pass_choice, all_choices}
 use Rattle.sheet.proofs.put_steps.Goals as goal
 use Rattle.sheet.proofs.put_steps.Goals.{then-in_range, else-in_range}
@@ -26,8 +23,8 @@ loop-c-preserved c = let turn = c.loop-c in
     let r = c.choice-r in (
       omega (arith, below),
       elim c.if-in_range.branch [
-        then-in_range w ↦ rw (w.out-is, w.at-is, w.length-at.ensures, w.put.ensures) (put_choice n turn.invariant.1 below r.result r.ensures (sym c.in_range.ensures ∙ w.if-in_range.true))
-      | else-in_range w ↦ rw (w.out-is, w.at-is) (pass_choice n turn.invariant.1 below r.result r.ensures (sym c.in_range.ensures ∙ w.if-in_range.false))
+        | then-in_range w ↦ rw (w.out-is, w.at-is, w.length-at.ensures, w.put.ensures) (put_choice n turn.invariant.1 below r.result r.ensures (sym c.in_range.ensures ∙ w.if-in_range.true))
+        | else-in_range w ↦ rw (w.out-is, w.at-is) (pass_choice n turn.invariant.1 below r.result r.ensures (sym c.in_range.ensures ∙ w.if-in_range.false))
       ],
     )
 

@@ -4,11 +4,10 @@ use mathlib.Core.Bool.{true}
 use Prim.Native.Nat.{◌≤◌}
 use lib.ListN.{length}
 use lib.Seq.{length-take-le}
-use borrow.Author.Rules.{rules}
 use Rattle.writer.specs.Writer.{written_hands}
 use Rattle.text.proofs.Putting.{put_front}
 use Rattle.exercises.specs.Sheet.{in_bounds}
-use Rattle.sheet.proofs.Whole.{front_ends, asked, there_is, written, refused}
+use Rattle.sheet.proofs.Whole.{front_ends, asked, there_is, written}
 use Rattle.sheet.proofs.write_sheet.Goals as goal
 use Rattle.sheet.proofs.write_sheet.Goals.{After-put_sheet-end, Then-in_bounds}
 

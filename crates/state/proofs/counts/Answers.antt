@@ -1,12 +1,9 @@
 -- `state::counts` meets its contract, case by case. Assumes nothing.
-use mathlib.Core.Path.{◌≡◌, refl}
-use Prim.Native.Nat.{suc, ◌-◌, ◌≤◌}
+use mathlib.Core.Path.{refl}
+use Prim.Native.Nat.{suc}
 use native.Mathlib.Omega.{arith}
-use lib.ListN.{length}
 use Rattle.store.specs.Log.{places}
-use Rattle.number.proofs.Table.{up_to, up_to_next, up_to_done}
-use Rattle.state.specs.Fields.{count_in}
-use borrow.Author.Rules.{rules}
+use Rattle.number.proofs.Table.{up_to_next, up_to_done}
 use Rattle.state.proofs.counts.Goals as goal
 
 pub loop-p-preserved : goal.loop-p-preserved

@@ -1,12 +1,10 @@
 -- `state::counts` meets its contract, case by case. Assumes nothing.
-use mathlib.Core.Path.{◌≡◌, refl}
+use mathlib.Core.Path.{◌≡◌}
 use Prim.Native.Nat.{suc, ◌-◌, ◌≤◌}
-use native.Mathlib.Omega.{arith}
 use lib.ListN.{length}
 use Rattle.store.specs.Log.{places}
-use Rattle.number.proofs.Table.{up_to, up_to_next, up_to_done}
+use Rattle.number.proofs.Table.{up_to}
 use Rattle.state.specs.Fields.{count_in}
-use borrow.Author.Rules.{rules}
 use Rattle.state.proofs.counts.Given as goal
 
 abbrev pub invariant-loop-p : goal.invariant-loop-p

@@ -1,6 +1,5 @@
 -- `state::fields_of` meets its contract, case by case. Assumes nothing.
 use Rattle.state.proofs.Filling.{all_pieces}
-use borrow.Author.Rules.{rules}
 use Rattle.state.proofs.fields_of.Goals as goal
 
 pub returns : goal.returns

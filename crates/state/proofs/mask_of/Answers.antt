@@ -2,7 +2,6 @@
 use native.Mathlib.Omega.{arith}
 use Rattle.state.proofs.Places.{mask_first}
 use Rattle.state.specs.Fields.{mask_in}
-use borrow.Author.Rules.{rules}
 use Rattle.state.proofs.mask_of.Goals as goal
 
 pub returns : goal.returns

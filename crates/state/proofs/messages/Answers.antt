@@ -1,11 +1,7 @@
 -- `state::messages` meets its contract, case by case. Assumes nothing.
-use mathlib.Core.Path.{◌≡◌, refl}
-use Prim.Native.Nat.{◌-◌, ◌≤◌}
+use mathlib.Core.Path.{refl}
 use native.Mathlib.Omega.{arith}
-use lib.ListN.{length}
-use Rattle.number.proofs.Table.{up_to, up_to_next, up_to_done}
-use Rattle.state.specs.Fields.{message_in}
-use borrow.Author.Rules.{rules}
+use Rattle.number.proofs.Table.{up_to_next, up_to_done}
 use Rattle.state.proofs.messages.Goals as goal
 
 pub loop-k-preserved : goal.loop-k-preserved

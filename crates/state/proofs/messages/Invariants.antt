@@ -1,11 +1,9 @@
 -- `state::messages` meets its contract, case by case. Assumes nothing.
-use mathlib.Core.Path.{◌≡◌, refl}
+use mathlib.Core.Path.{◌≡◌}
 use Prim.Native.Nat.{◌-◌, ◌≤◌}
-use native.Mathlib.Omega.{arith}
 use lib.ListN.{length}
-use Rattle.number.proofs.Table.{up_to, up_to_next, up_to_done}
+use Rattle.number.proofs.Table.{up_to}
 use Rattle.state.specs.Fields.{message_in}
-use borrow.Author.Rules.{rules}
 use Rattle.state.proofs.messages.Given as goal
 
 abbrev pub invariant-loop-k : goal.invariant-loop-k

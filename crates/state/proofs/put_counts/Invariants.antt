@@ -1,13 +1,10 @@
 -- `state::put_counts` meets its contract, case by case. Assumes nothing.
-use mathlib.Core.Path.{refl}
 use Prim.Native.Nat.{suc, ◌-◌, ◌≤◌}
-use native.Mathlib.Omega.{arith}
 use lib.ListN.{get_or}
 use Rattle.store.specs.Log.{places}
 use Rattle.state.specs.Types.{Release}
 use Rattle.state.specs.Fields.{with_calls}
-use Rattle.state.proofs.Filling.{UpTo, one_count, all_put}
-use borrow.Author.Rules.{rules}
+use Rattle.state.proofs.Filling.{UpTo}
 use Rattle.state.proofs.put_counts.Given as goal
 
 abbrev pub invariant-loop-p : goal.invariant-loop-p

@@ -2,7 +2,6 @@
 use native.Mathlib.Omega.{arith}
 use Rattle.state.proofs.Places.{mask_first}
 use Rattle.state.specs.Fields.{with_mask_in}
-use borrow.Author.Rules.{rules}
 use Rattle.state.proofs.put_mask.Goals as goal
 
 pub returns : goal.returns

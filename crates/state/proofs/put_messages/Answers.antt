@@ -1,12 +1,9 @@
 -- `state::put_messages` meets its contract, case by case. Assumes nothing.
 use mathlib.Core.Path.{refl}
-use Prim.Native.Nat.{◌-◌, ◌≤◌}
 use native.Mathlib.Omega.{arith}
-use lib.ListN.{get_or}
 use Rattle.state.specs.Types.{Release}
 use Rattle.state.specs.Fields.{with_messages}
-use Rattle.state.proofs.Filling.{UpTo, one_message, all_put}
-use borrow.Author.Rules.{rules}
+use Rattle.state.proofs.Filling.{one_message, all_put}
 use Rattle.state.proofs.put_messages.Goals as goal
 
 pub loop-k-preserved : goal.loop-k-preserved

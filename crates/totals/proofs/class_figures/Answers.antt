@@ -1,20 +1,18 @@
 -- `totals::class_figures` meets its contract: what holds while schedules are added up stands in Counting. Assumes nothing.
 use mathlib.Core.Path.{◌≡◌, sym, ap, subst, ◌∙◌}
 use mathlib.Core.List.{List}
-use Prim.Native.Nat.{ℕ, ◌+◌, ◌-◌, ◌<◌}
+use Prim.Native.Nat.{ℕ, ◌+◌, ◌-◌}
 use native.Mathlib.Omega.{arith}
-use lib.ListN.{length, take, drop, length-replicate}
-use borrow.Author.Tests.{lt-ltb, le-ltb, eq-eqb}
+use lib.ListN.{take, drop, length-replicate}
 use borrow.Author.Rules.{rules}
 use Rattle.schedule.specs.Record.{longest}
 use Rattle.schedule.specs.Schedule.{read_schedule}
 use Rattle.passes.specs.Pass.{validated}
 use Rattle.parts.specs.Parts.{part_length}
-use Rattle.figures.specs.Class.{Schedule}
 use Rattle.figures.specs.Figures.{calls_of, no_column, answer_with}
 use Rattle.totals.specs.Types.{Validated, Totals}
 use Rattle.totals.specs.Adding.{schedule_of, schedule_added, calls_added, refused_from, RefusedNear}
-use Rattle.totals.proofs.Counting.{Counting, set_out, room, entries, size_some, size_fits, stops, go_on, arrived, answered}
+use Rattle.totals.proofs.Counting.{Counting, set_out, room, entries, size_fits, stops, go_on, arrived, answered}
 use Rattle.totals.proofs.class_figures.Goals as goal
 
 -- the schedule at the place where the loop stands

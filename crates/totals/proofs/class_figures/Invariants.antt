@@ -1,19 +1,9 @@
 -- `totals::class_figures` meets its contract: what holds while schedules are added up stands in Counting. Assumes nothing.
-use mathlib.Core.Path.{◌≡◌, sym, ap, subst, ◌∙◌}
-use Prim.Native.Nat.{ℕ, ◌-◌, ◌<◌}
-use native.Mathlib.Omega.{arith}
-use lib.ListN.{length, take, drop, length-replicate}
-use borrow.Author.Tests.{lt-ltb, le-ltb, eq-eqb}
-use borrow.Author.Rules.{rules}
+use mathlib.Core.Path.{◌≡◌}
+use Prim.Native.Nat.{◌-◌, ◌<◌}
+use lib.ListN.{length}
 use Rattle.schedule.specs.Record.{longest}
-use Rattle.schedule.specs.Schedule.{read_schedule}
-use Rattle.passes.specs.Pass.{validated}
-use Rattle.parts.specs.Parts.{part_length}
-use Rattle.figures.specs.Class.{Schedule}
-use Rattle.figures.specs.Figures.{calls_of, no_column, answer_with}
-use Rattle.totals.specs.Types.{Totals}
-use Rattle.totals.specs.Adding.{schedule_of, schedule_added, calls_added, refused_from, RefusedNear}
-use Rattle.totals.proofs.Counting.{Counting, set_out, room, entries, size_some, size_fits, stops, go_on, arrived, answered}
+use Rattle.totals.proofs.Counting.{Counting}
 use Rattle.totals.proofs.class_figures.Given as goal
 
 abbrev pub invariant-loop-at : goal.invariant-loop-at

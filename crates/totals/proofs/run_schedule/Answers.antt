@@ -3,7 +3,6 @@ use mathlib.Core.Path.{◌∙◌}
 use Prim.Native.Nat.{suc, ◌+◌, ◌≤◌}
 use native.Mathlib.Omega.{arith}
 use lib.ListN.{length, take, drop}
-use borrow.Author.Rules.{rules}
 use Rattle.store.specs.Log.{places}
 use Rattle.schedule.specs.Record.{header_record, record_length}
 use Rattle.state.specs.Fields.{fields, counts_from, release_in}

@@ -1,12 +1,9 @@
 -- `totals::said` meets its contract: byte by byte. Assumes nothing.
-use mathlib.Core.Path.{◌≡◌, refl, sym, ◌∙◌}
-use mathlib.Core.Logic.{⊎_elim}
+use mathlib.Core.Path.{◌≡◌}
 use mathlib.Core.Bool.{◌||◌}
 use Prim.Native.Nat.{◌-◌, ◌≤◌}
 use lib.ListN.{length, drop}
-use borrow.Author.Rules.{rules}
 use Rattle.figures.specs.Figures.{said_in}
-use Rattle.totals.proofs.Bytes.{said_here, said_next, said_all}
 use Rattle.totals.proofs.said.Given as goal
 
 abbrev pub invariant-loop-i : goal.invariant-loop-i

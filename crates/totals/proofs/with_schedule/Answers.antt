@@ -4,7 +4,6 @@ use Prim.Native.Nat.{◌≤◌}
 use native.Mathlib.Omega.{arith}
 use lib.ListN.{length}
 use lib.Seq.{length-take-le}
-use borrow.Author.Rules.{rules}
 use Rattle.totals.proofs.Run.{few_steps, bytes_front, added_is, none_added, none_counted}
 use Rattle.totals.proofs.with_schedule.Goals as goal
 use Rattle.totals.proofs.with_schedule.Goals.{After-run_schedule-calls}

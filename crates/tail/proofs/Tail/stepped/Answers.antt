@@ -2,18 +2,14 @@
 use mathlib.Core.Path.{sym, ap, ◌∙◌}
 use Rattle.store.specs.Log.{places}
 use Rattle.kind.proofs.Numbers.{more_steps}
-use Rattle.rules.specs.Report.{moves}
-use Rattle.rules.specs.Step.{step}
 use Rattle.rules.specs.Run.{count_limit}
 use Rattle.state.specs.Fields.{fields}
 use Rattle.tail.specs.Types.{Release, Report}
-use Rattle.tail.specs.Tail.{release_of}
 use Rattle.tail.specs.Single.{handed}
-use Rattle.tail.proofs.SingleCases.{handed_moved, handed_idle}
+use Rattle.tail.proofs.SingleCases.{handed_moved}
 use Rattle.kind.specs.declared.Kind.{Kind}
 use Rattle.tail.proofs.TailRange.{n_in_range}
-use Rattle.tail.proofs.Stepping.{can_count, same_outcome, same_report}
-use borrow.Author.Rules.{rules}
+use Rattle.tail.proofs.Stepping.{can_count, same_report}
 use Rattle.tail.proofs.Tail.stepped.Goals as goal
 
 pub step-stepped-requires : goal.step-stepped-requires
