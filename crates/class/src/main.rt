@@ -35,13 +35,13 @@ fn write_summary(rt: &impl Print, file: &[u8], text: &[u8]) -> io::Result<()>
 // Reads until the buffer is full or the input ends. It has room for more than a file may have, so that one that is too long is refused.
 fn print_figures(
     rt: &impl Print,
-    input: &mut impl Read,
+    reader: &mut impl Read,
     file: &mut [u8],
     text: &mut [u8],
 ) -> io::Result<()>
     requires { (longest < length file.old) × (longest_summary ≤ length text.old) }
 {
-    let length = read_full(input, file)?;
+    let length = read_full(reader, file)?;
     let end = summarize_whole(&file[..length], text);
     write_summary(rt, &file[..length], &text[..end])
 }

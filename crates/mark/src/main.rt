@@ -35,13 +35,13 @@ fn write_listing(rt: &impl Print, schedule: &[u8], text: &[u8]) -> io::Result<()
 // Reads until the buffer is full or the input ends. It has room for more than a schedule may have, so that one that is too long is refused.
 fn mark(
     rt: &impl Print,
-    input: &mut impl Read,
+    reader: &mut impl Read,
     schedule: &mut [u8],
     text: &mut [u8],
 ) -> io::Result<()>
     requires { (longest < length schedule.old) × (longest_text ≤ length text.old) }
 {
-    let length = read_full(input, schedule)?;
+    let length = read_full(reader, schedule)?;
     let end = list_whole(&schedule[..length], text);
     write_listing(rt, &schedule[..length], &text[..end])
 }

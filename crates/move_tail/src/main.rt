@@ -31,14 +31,14 @@ fn write_moved(rt: &impl Print, tail: &[u8], text: &[u8]) -> io::Result<()>
 // Reads until the buffer is full or the input ends. It has room for more than a tail of 59 bytes, so that one that is too long is refused.
 fn move_over(
     rt: &impl Print,
-    input: &mut impl Read,
+    reader: &mut impl Read,
     tail: &mut [u8],
     moved: &mut [u8],
     text: &mut [u8],
 ) -> io::Result<()>
     requires { (tail_length narrow < length tail.old) × (tail_length wide ≤ length moved.old) × (longest_line ≤ length text.old) }
 {
-    let length = read_full(input, tail)?;
+    let length = read_full(reader, tail)?;
     let end = put_moved(&tail[..length], moved, text);
     write_moved(rt, &tail[..length], &text[..end])
 }

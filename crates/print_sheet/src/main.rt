@@ -92,14 +92,14 @@ fn write_asked(rt: &impl Print, asked: &[u8], text: &[u8]) -> io::Result<()>
 // Reads until the buffer is full or the input ends.
 fn print_asked(
     rt: &impl Print,
-    input: &mut impl Read,
+    reader: &mut impl Read,
     asked: &mut [u8],
     sheet: &mut [u8],
     text: &mut [u8],
 ) -> io::Result<()>
     requires { (longest_sheet ≤ length sheet.old) × (longest_text ≤ length text.old) }
 {
-    let length = read_full(input, asked)?;
+    let length = read_full(reader, asked)?;
     let end = put_asked(&asked[..length], sheet, text);
     write_asked(rt, &asked[..length], &text[..end])
 }

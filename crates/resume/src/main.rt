@@ -66,12 +66,7 @@ fn write_resumed(rt: &impl Print, input: &[u8], text: &[u8]) -> io::Result<()>
 }
 
 // The tail stands in the first frame, and the steps after it.
-fn resume_input(
-    rt: &impl Print,
-    input: &[u8],
-    report: &mut [u8],
-    text: &mut [u8],
-) -> io::Result<()>
+fn resume_input(rt: &impl Print, input: &[u8], report: &mut [u8], text: &mut [u8]) -> io::Result<()>
     requires { (longest_report ≤ length report.old) × (longest_resumed ≤ length text.old) }
 {
     let Frame::Whole(size) = first_frame(input) else {
@@ -86,14 +81,14 @@ fn resume_input(
 // refused.
 fn resume(
     rt: &impl Print,
-    from: &mut impl Read,
+    reader: &mut impl Read,
     input: &mut [u8],
     report: &mut [u8],
     text: &mut [u8],
 ) -> io::Result<()>
     requires { (longest_frame + longest < length input.old) × (longest_report ≤ length report.old) × (longest_resumed ≤ length text.old) }
 {
-    let length = read_full(from, input)?;
+    let length = read_full(reader, input)?;
     resume_input(rt, &input[..length], report, text)
 }
 
