@@ -12,6 +12,9 @@ use std::io;
 use std::io::Read;
 use writer::Written;
 
+// Room for every listing.
+const TEXT: usize = LONGEST_TEXT;
+
 // Lists a schedule in a text that has room for every listing. Answers the listing's length.
 fn list_whole(schedule: &[u8], text: &mut [u8]) -> usize
     requires { longest_text ≤ length text.old }
@@ -48,6 +51,6 @@ fn mark(
 
 fn main(rt: HostRuntime) -> io::Result<()> {
     let mut schedule = [0u8; LONGEST + 1];
-    let mut text = [0u8; LONGEST_TEXT];
+    let mut text = [0u8; TEXT];
     mark(&rt, &mut rt.stdin(), &mut schedule, &mut text)
 }

@@ -22,6 +22,9 @@ use writer::Written;
 // Room for the line with a tail.
 const TAIL_LINE: usize = 5 + 2 * TAIL + 1;
 
+// Room for the longest text.
+const TEXT: usize = LONGEST_TEXT + TAIL_LINE;
+
 // Puts the line with the tail after the steps at a place of the text; none where they are refused.
 fn put_tail_line(
     tail: &[u8],
@@ -95,6 +98,6 @@ fn resume(
 fn main(rt: HostRuntime) -> io::Result<()> {
     let mut input = [0u8; FRAME + LONGEST + 1];
     let mut report = [0u8; REPORT];
-    let mut text = [0u8; LONGEST_TEXT + TAIL_LINE];
+    let mut text = [0u8; TEXT];
     resume(&rt, &mut rt.stdin(), &mut input, &mut report, &mut text)
 }
