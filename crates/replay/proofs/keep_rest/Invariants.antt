@@ -1,5 +1,5 @@
 -- What was moved stands in front, and what is left to move is as it was.
-use Rattle.std.proofs.Common.{◌≡◌, ◌≤◌, take, drop}
+use Rattle.std.proofs.Common.{◌≡◌, take, drop}
 use Rattle.replay.proofs.keep_rest.Given as goal
 
 abbrev pub invariant-loop-i : goal.invariant-loop-i
