@@ -5,8 +5,10 @@ ghost use Rattle.std.specs.Prelude.{◌≡◌, ◌≤◌, ◌<◌, length, take}
 ghost use Rattle.schedule.specs.Record.{longest};
 ghost use Rattle.summary.specs.Summary.{summary, longest_summary};
 
-use libc::{STDIN_FILENO, STDOUT_FILENO};
+use input::read_full;
 use schedule::LONGEST;
+use std::io;
+use std::io::Read;
 use summary::{LONGEST_SUMMARY, summarize};
 use writer::Written;
 
@@ -24,23 +26,28 @@ fn summarize_whole(file: &[u8], text: &mut [u8]) -> usize
 }
 
 // Writes a text out, which must be the summary of the file. The file is handed in so that the contract can say so.
-fn write_summary(file: &[u8], text: &[u8])
+fn write_summary(rt: &impl Print, file: &[u8], text: &[u8]) -> io::Result<()>
     requires { text.now ≡ summary file.now }
 {
-    io::write_all(STDOUT_FILENO, text);
+    rt.write_all(text)
 }
 
 // Reads until the buffer is full or the input ends. It has room for more than a file may have, so that one that is too long is refused.
-fn print_figures(file: &mut [u8], text: &mut [u8])
+fn print_figures(
+    rt: &impl Print,
+    reader: &mut impl Read,
+    file: &mut [u8],
+    text: &mut [u8],
+) -> io::Result<()>
     requires { (longest < length file.old) × (longest_summary ≤ length text.old) }
 {
-    let length = io::read_full(STDIN_FILENO, file);
+    let length = read_full(reader, file)?;
     let end = summarize_whole(&file[..length], text);
-    write_summary(&file[..length], &text[..end]);
+    write_summary(rt, &file[..length], &text[..end])
 }
 
-fn main() {
+fn main(rt: HostRuntime) -> io::Result<()> {
     let mut file = [0u8; LONGEST + 1];
     let mut text = [0u8; LONGEST_SUMMARY];
-    print_figures(&mut file, &mut text);
+    print_figures(&rt, &mut rt.stdin(), &mut file, &mut text)
 }

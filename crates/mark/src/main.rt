@@ -5,10 +5,15 @@ ghost use Rattle.std.specs.Prelude.{◌≡◌, ◌≤◌, ◌<◌, length, take}
 ghost use Rattle.schedule.specs.Record.{longest};
 ghost use Rattle.listing.specs.Listing.{listing, longest_text};
 
-use libc::{STDIN_FILENO, STDOUT_FILENO};
+use input::read_full;
 use listing::{LONGEST_TEXT, list};
 use schedule::LONGEST;
+use std::io;
+use std::io::Read;
 use writer::Written;
+
+// Room for every listing.
+const TEXT: usize = LONGEST_TEXT;
 
 // Lists a schedule in a text that has room for every listing. Answers the listing's length.
 fn list_whole(schedule: &[u8], text: &mut [u8]) -> usize
@@ -24,23 +29,28 @@ fn list_whole(schedule: &[u8], text: &mut [u8]) -> usize
 }
 
 // Writes a text out, which must be the listing of the schedule. The schedule is handed in so that the contract can say so.
-fn write_listing(schedule: &[u8], text: &[u8])
+fn write_listing(rt: &impl Print, schedule: &[u8], text: &[u8]) -> io::Result<()>
     requires { text.now ≡ listing schedule.now }
 {
-    io::write_all(STDOUT_FILENO, text);
+    rt.write_all(text)
 }
 
 // Reads until the buffer is full or the input ends. It has room for more than a schedule may have, so that one that is too long is refused.
-fn mark(schedule: &mut [u8], text: &mut [u8])
+fn mark(
+    rt: &impl Print,
+    reader: &mut impl Read,
+    schedule: &mut [u8],
+    text: &mut [u8],
+) -> io::Result<()>
     requires { (longest < length schedule.old) × (longest_text ≤ length text.old) }
 {
-    let length = io::read_full(STDIN_FILENO, schedule);
+    let length = read_full(reader, schedule)?;
     let end = list_whole(&schedule[..length], text);
-    write_listing(&schedule[..length], &text[..end]);
+    write_listing(rt, &schedule[..length], &text[..end])
 }
 
-fn main() {
+fn main(rt: HostRuntime) -> io::Result<()> {
     let mut schedule = [0u8; LONGEST + 1];
-    let mut text = [0u8; LONGEST_TEXT];
-    mark(&mut schedule, &mut text);
+    let mut text = [0u8; TEXT];
+    mark(&rt, &mut rt.stdin(), &mut schedule, &mut text)
 }

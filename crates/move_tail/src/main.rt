@@ -7,8 +7,10 @@ ghost use Rattle.move_tail.specs.Line.{moved_line, longest_line};
 
 use form::TAIL;
 use frame::put_answer;
-use libc::{STDIN_FILENO, STDOUT_FILENO};
+use input::read_full;
 use start::move_tail;
+use std::io;
+use std::io::Read;
 
 // Puts the line of a tail at the front of a text. Answers its length.
 fn put_moved(tail: &[u8], moved: &mut [u8], text: &mut [u8]) -> usize
@@ -20,24 +22,30 @@ fn put_moved(tail: &[u8], moved: &mut [u8], text: &mut [u8]) -> usize
 }
 
 // Writes a text out, which must be the line of the tail. The tail is handed in so that the contract can say so.
-fn write_moved(tail: &[u8], text: &[u8])
+fn write_moved(rt: &impl Print, tail: &[u8], text: &[u8]) -> io::Result<()>
     requires { text.now ≡ moved_line tail.now }
 {
-    io::write_all(STDOUT_FILENO, text);
+    rt.write_all(text)
 }
 
 // Reads until the buffer is full or the input ends. It has room for more than a tail of 59 bytes, so that one that is too long is refused.
-fn move_over(tail: &mut [u8], moved: &mut [u8], text: &mut [u8])
+fn move_over(
+    rt: &impl Print,
+    reader: &mut impl Read,
+    tail: &mut [u8],
+    moved: &mut [u8],
+    text: &mut [u8],
+) -> io::Result<()>
     requires { (tail_length narrow < length tail.old) × (tail_length wide ≤ length moved.old) × (longest_line ≤ length text.old) }
 {
-    let length = io::read_full(STDIN_FILENO, tail);
+    let length = read_full(reader, tail)?;
     let end = put_moved(&tail[..length], moved, text);
-    write_moved(&tail[..length], &text[..end]);
+    write_moved(rt, &tail[..length], &text[..end])
 }
 
-fn main() {
+fn main(rt: HostRuntime) -> io::Result<()> {
     let mut tail = [0u8; 60];
     let mut moved = [0u8; TAIL];
     let mut text = [0u8; 2 * TAIL + 1];
-    move_over(&mut tail, &mut moved, &mut text);
+    move_over(&rt, &mut rt.stdin(), &mut tail, &mut moved, &mut text)
 }

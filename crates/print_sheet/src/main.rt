@@ -9,10 +9,12 @@ ghost use Rattle.exercises.specs.Promises.{longest_sheet};
 ghost use Rattle.print_sheet.specs.Lines.{line_of, separator, sheet_text, asked_text, longest_text};
 
 use exercises::LONGEST_SHEET;
-use libc::{STDIN_FILENO, STDOUT_FILENO};
+use input::read_full;
 use parts::schedule_end;
 use schedule::reader::byte_at;
 use sheet::write_sheet;
+use std::io;
+use std::io::Read;
 use text::{put_hexadecimal, put_refusal};
 use writer::Written;
 
@@ -81,24 +83,30 @@ fn put_asked(asked: &[u8], sheet: &mut [u8], text: &mut [u8]) -> usize
 }
 
 // Writes a text out, which must be that of the sheet asked for. What was read is handed in so that the contract can say so.
-fn write_asked(asked: &[u8], text: &[u8])
+fn write_asked(rt: &impl Print, asked: &[u8], text: &[u8]) -> io::Result<()>
     requires { text.now ≡ asked_text asked.now }
 {
-    io::write_all(STDOUT_FILENO, text);
+    rt.write_all(text)
 }
 
 // Reads until the buffer is full or the input ends.
-fn print_asked(asked: &mut [u8], sheet: &mut [u8], text: &mut [u8])
+fn print_asked(
+    rt: &impl Print,
+    reader: &mut impl Read,
+    asked: &mut [u8],
+    sheet: &mut [u8],
+    text: &mut [u8],
+) -> io::Result<()>
     requires { (longest_sheet ≤ length sheet.old) × (longest_text ≤ length text.old) }
 {
-    let length = io::read_full(STDIN_FILENO, asked);
+    let length = read_full(reader, asked)?;
     let end = put_asked(&asked[..length], sheet, text);
-    write_asked(&asked[..length], &text[..end]);
+    write_asked(rt, &asked[..length], &text[..end])
 }
 
-fn main() {
+fn main(rt: HostRuntime) -> io::Result<()> {
     let mut asked = [0u8; 3];
     let mut sheet = [0u8; LONGEST_SHEET];
     let mut text = [0u8; 3 * LONGEST_SHEET];
-    print_asked(&mut asked, &mut sheet, &mut text);
+    print_asked(&rt, &mut rt.stdin(), &mut asked, &mut sheet, &mut text)
 }

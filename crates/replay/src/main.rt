@@ -2,11 +2,13 @@
 // is marked as far as its frames are whole, and the rest is kept for the next reading.
 #![tactic(auto)]
 
-ghost use Rattle.std.specs.Prelude.{◌≡◌, ◌+◌, ◌-◌, ◌≤◌, ◌<◌, length, take, drop};
+ghost use Rattle.std.specs.Prelude.{◌≡◌, ◌+◌, ◌-◌, ◌≤◌, ◌<◌, length, take, drop, IfOk, OnErr};
+ghost use Rattle.std.specs.Io.KnownBytes.{IsAtEnd};
 ghost use Rattle.frame.specs.Frame.{LinesOf, FramesThen, longest_report, longest_line, longest_frame};
 
 use frame::{FRAME, LINE, REPORT, mark_frames};
-use libc::{STDIN_FILENO, STDOUT_FILENO};
+use std::io;
+use std::io::Read;
 
 // Room for some frames and lines of the greatest length: the more, the fewer readings and writings.
 const INPUT: usize = 8 * FRAME;
@@ -14,29 +16,34 @@ const INPUT: usize = 8 * FRAME;
 const OUTPUT: usize = 8 * LINE;
 
 // Writes out the lines of these frames. Answers how many bytes the frames have, so that a caller passes over just what is written.
-fn write_lines(frames: &[u8], lines: &[u8]) -> usize
+fn write_lines(rt: &impl Print, frames: &[u8], lines: &[u8]) -> io::Result<usize>
     requires { LinesOf frames.now lines.now }
-    ensures { result ≡ length frames.now }
+    ensures { IfOk result (λ n. n ≡ length frames.now) }
 {
-    io::write_all(STDOUT_FILENO, lines);
-    frames.len()
+    rt.write_all(lines)?;
+    Ok(frames.len())
 }
 
 // Marks every frame that is whole, a part of them at a time, and writes out the lines of each part. Answers how many bytes these frames have.
-fn mark_whole(input: &[u8], report: &mut [u8], output: &mut [u8]) -> usize
+fn mark_whole(
+    rt: &impl Print,
+    input: &[u8],
+    report: &mut [u8],
+    output: &mut [u8],
+) -> io::Result<usize>
     requires { (longest_report ≤ length report.old) × (longest_line ≤ length output.old) }
-    ensures { (result ≤ length input.now) × FramesThen input.now (drop result input.now) }
+    ensures { IfOk result (λ n. (n ≤ length input.now) × FramesThen input.now (drop n input.now)) }
 {
     let mut at: usize = 0;
     loop {
         let marked = mark_frames(&input[at..], report, output);
         let used = marked.used;
         if used == 0 {
-            return at;
+            return Ok(at);
         }
         let end = at + used;
         let filled = marked.filled;
-        at = at + write_lines(&input[at..end], &output[..filled]);
+        at = at + write_lines(rt, &input[at..end], &output[..filled])?;
     }
 }
 
@@ -52,48 +59,59 @@ fn keep_rest(input: &mut [u8], from: usize, end: usize) -> usize
     kept
 }
 
-// Marks what was read so far: it is whole frames, and then what is kept. Answers how much that is.
-fn mark_read(input: &mut [u8], end: usize, report: &mut [u8], output: &mut [u8]) -> usize
+// Marks what was read so far: it is whole frames, and then what is kept. Answers how much that is. After an error what was read is as it was.
+fn mark_read(
+    rt: &impl Print,
+    input: &mut [u8],
+    end: usize,
+    report: &mut [u8],
+    output: &mut [u8],
+) -> io::Result<usize>
     requires { (end ≤ length input.old) × (longest_report ≤ length report.old) × (longest_line ≤ length output.old) }
-    ensures { (result < longest_frame) × FramesThen (take end input.old) (take result input.new) }
+    ensures ok { IfOk result (λ n. (n < longest_frame) × FramesThen (take end input.old) (take n input.new)) }
+    ensures err { OnErr result (input.new ≡ input.old) }
 {
-    let used = mark_whole(&input[..end], report, output);
-    keep_rest(input, used, end)
+    let used = mark_whole(rt, &input[..end], report, output)?;
+    Ok(keep_rest(input, used, end))
 }
 
-// Reads more, after what was kept. Answers how much; nothing where the input has ended, since there is room.
-fn read_more(input: &mut [u8], kept: usize) -> usize
+// Reads more, after what was kept, which stays. Answers how much; nothing where the input has ended, since there is room.
+fn read_more<R: Read>(reader: &mut R, input: &mut [u8], kept: usize) -> io::Result<usize>
     requires { kept < length input.old }
-    ensures { kept + result ≤ length input.old }
+    ensures bound { IfOk result (λ n. kept + n ≤ length input.old) }
+    ensures stays { take kept input.new ≡ take kept input.old }
+    ensures end { IfOk result (λ n. n ≡ 0 → IsAtEnd (R.remaining reader.new)) }
 {
-    let part = &mut input[kept..];
-    let got = libc::read(STDIN_FILENO, part);
-    io::count(got, part)
+    reader.read(&mut input[kept..])
 }
 
-// A proved loop has to end, and nothing says that an input does: the turns count down from a number that no run uses up.
-fn replay(input: &mut [u8], report: &mut [u8], output: &mut [u8])
+// A proved loop has to end, and nothing says that an input does: the turns are bounded by a number that no run uses up.
+fn replay(
+    rt: &impl Print,
+    reader: &mut impl Read,
+    input: &mut [u8],
+    report: &mut [u8],
+    output: &mut [u8],
+) -> io::Result<()>
     requires { (longest_frame ≤ length input.old) × (longest_report ≤ length report.old) × (longest_line ≤ length output.old) }
 {
     let mut kept: usize = 0;
-    let mut turns = u64::MAX;
-    while turns > 0 {
-        let got = read_more(input, kept);
+    for _ in 0..u64::MAX {
+        let got = read_more(reader, input, kept)?;
         if got == 0 {
-            turns = 0;
-        } else {
-            kept = mark_read(input, kept + got, report, output);
-            turns = turns - 1;
+            break;
         }
+        kept = mark_read(rt, input, kept + got, report, output)?;
     }
     if kept > 0 {
-        io::write_all(STDOUT_FILENO, b"incomplete frame\n");
+        return rt.write_all(b"incomplete frame\n");
     }
+    Ok(())
 }
 
-fn main() {
+fn main(rt: HostRuntime) -> io::Result<()> {
     let mut input = [0u8; INPUT];
     let mut report = [0u8; REPORT];
     let mut output = [0u8; OUTPUT];
-    replay(&mut input, &mut report, &mut output);
+    replay(&rt, &mut rt.stdin(), &mut input, &mut report, &mut output)
 }

@@ -10,15 +10,20 @@ ghost use Rattle.resume.specs.Resume.{tail_text, resumed_text, Resumes, tail_lin
 
 use form::TAIL;
 use frame::{FRAME, Frame, REPORT, first_frame};
-use libc::{STDIN_FILENO, STDOUT_FILENO};
+use input::read_full;
 use listing::{LONGEST_TEXT, list_from};
 use marker::run_from;
 use schedule::LONGEST;
+use std::io;
+use std::io::Read;
 use text::{put, put_hexadecimal};
 use writer::Written;
 
 // Room for the line with a tail.
 const TAIL_LINE: usize = 5 + 2 * TAIL + 1;
+
+// Room for the longest text.
+const TEXT: usize = LONGEST_TEXT + TAIL_LINE;
 
 // Puts the line with the tail after the steps at a place of the text; none where they are refused.
 fn put_tail_line(
@@ -57,37 +62,42 @@ fn put_resumed(tail: &[u8], rest: &[u8], report: &mut [u8], text: &mut [u8]) -> 
 }
 
 // Writes a text out, which must be that of the input. The input is handed in so that the contract can say so.
-fn write_resumed(input: &[u8], text: &[u8])
+fn write_resumed(rt: &impl Print, input: &[u8], text: &[u8]) -> io::Result<()>
     requires { Resumes input.now text.now }
 {
-    io::write_all(STDOUT_FILENO, text);
+    rt.write_all(text)
 }
 
 // The tail stands in the first frame, and the steps after it.
-fn resume_input(input: &[u8], report: &mut [u8], text: &mut [u8])
+fn resume_input(rt: &impl Print, input: &[u8], report: &mut [u8], text: &mut [u8]) -> io::Result<()>
     requires { (longest_report ≤ length report.old) × (longest_resumed ≤ length text.old) }
 {
     let Frame::Whole(size) = first_frame(input) else {
-        io::write_all(STDOUT_FILENO, b"incomplete frame\n");
-        return;
+        return rt.write_all(b"incomplete frame\n");
     };
     let start = 2 + size;
     let end = put_resumed(&input[2..start], &input[start..], report, text);
-    write_resumed(input, &text[..end]);
+    write_resumed(rt, input, &text[..end])
 }
 
 // Reads until the buffer is full or the input ends. It has room for the longest frame and for more than the longest steps, so that what is too long is
 // refused.
-fn resume(input: &mut [u8], report: &mut [u8], text: &mut [u8])
+fn resume(
+    rt: &impl Print,
+    reader: &mut impl Read,
+    input: &mut [u8],
+    report: &mut [u8],
+    text: &mut [u8],
+) -> io::Result<()>
     requires { (longest_frame + longest < length input.old) × (longest_report ≤ length report.old) × (longest_resumed ≤ length text.old) }
 {
-    let length = io::read_full(STDIN_FILENO, input);
-    resume_input(&input[..length], report, text);
+    let length = read_full(reader, input)?;
+    resume_input(rt, &input[..length], report, text)
 }
 
-fn main() {
+fn main(rt: HostRuntime) -> io::Result<()> {
     let mut input = [0u8; FRAME + LONGEST + 1];
     let mut report = [0u8; REPORT];
-    let mut text = [0u8; LONGEST_TEXT + TAIL_LINE];
-    resume(&mut input, &mut report, &mut text);
+    let mut text = [0u8; TEXT];
+    resume(&rt, &mut rt.stdin(), &mut input, &mut report, &mut text)
 }
