@@ -1,13 +1,12 @@
 -- A decision does to a participant what is written. Assumes nothing.
-use mathlib.Core.Path.{◌≡◌, refl, ◌∙◌}
+use mathlib.Core.Path.{◌≡◌, refl}
 use mathlib.Core.Logic.{◌⊎◌, inl, inr}
 use Prim.Native.Nat.{ℕ, ◌<◌}
 use native.Mathlib.Omega.{arith}
 use lib.Dec.{lit≤}
 use Rattle.participant.specs.Types.{Decision, Participant, Waiting, VotingYes, Closing, Uncertain, Terminating, RecordingCommit, RecordingAbort, DoneCommit, DoneAbort, Down}
-use Rattle.participant.specs.Participant.{of_numbers, recording, on_decision}
-use Rattle.participant.specs.Decision.{TakesDecision, recording_number, DecisionLeads, DecisionAsWritten}
-use Rattle.participant.proofs.Numbers.{by_numbers}
+use Rattle.participant.specs.Participant.{recording}
+use Rattle.participant.specs.Decision.{TakesDecision, DecisionLeads, DecisionAsWritten}
 
 below : (k : ℕ) → k < 3 → (k ≡ 3) ⊎ (k ≡ 4) → ⊥
 below k l (inl e) = omega arith
@@ -36,14 +35,3 @@ decision_as_written d RecordingAbort = stays RecordingAbort d (beyond 6 (lit≤ 
 decision_as_written d DoneCommit = stays DoneCommit d (beyond 7 (lit≤ tt))
 decision_as_written d DoneAbort = stays DoneAbort d (beyond 8 (lit≤ tt))
 decision_as_written d Down = stays Down d (beyond 9 (lit≤ tt))
-
--- in 3 or 4
-pub takes_decision : (d : Decision) (p : Participant) → TakesDecision p → on_decision d p ≡ recording d
-takes_decision d p t = by_numbers (on_decision d p) (recording_number d) 0 (leads.state t) (leads.heard t) ∙ recorded d
-  where
-    leads : DecisionLeads d p (on_decision d p)
-    leads = decision_as_written d p
-
-    recorded : (d : Decision) → of_numbers (recording_number d) 0 ≡ recording d
-    recorded Decision.Commit = refl
-    recorded Decision.Abort = refl

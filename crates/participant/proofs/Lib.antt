@@ -1,3 +1,4 @@
 pub mod Numbers
 pub mod Decision
+pub mod Takes
 mod Cases

@@ -11,7 +11,8 @@ use Rattle.kind.specs.Step.{AllInRange}
 use Rattle.participant.specs.Participant
 use Rattle.participant.specs.Decision.{TakesDecision, DecisionLeads}
 use Rattle.participant.proofs.Numbers.{by_numbers}
-use Rattle.participant.proofs.Decision.{decision_as_written, takes_decision}
+use Rattle.participant.proofs.Decision.{decision_as_written}
+use Rattle.participant.proofs.Takes.{takes_decision}
 use Rattle.rules.specs.State.{participant_at, participant_of, first_of, fresh}
 use Rattle.rules.specs.Report.{outcome_number, known, learnt, step_byte}
 use Rattle.rules.specs.Step.{take_out, with_participant, participant_to, receive, step}
