@@ -35,10 +35,10 @@ module _ (n i : ℕ) (p : Participant) (e : Event) where
       participant : Participant.numbers_in_range (full n) (suc i - 1) (Participant.state_number p) (Participant.heard_of p) ≡ true
       participant =
           and_true _ _ (are_numbers_lem Participant.state_number Participant.heard_of Participant.of_numbers participant_numbers p)
-          (ap₂ (λ (k : ℕ) (x : Participant). Participant.in_range (full n) k x) (omega arith) (participant_numbers.decoded p) ∙ q)
+          (ap₂ (λ (k : ℕ) (x : Participant). Participant.in_range (full n) k x) (let z : suc i - 1 ≡ i = omega arith in z) (participant_numbers.decoded p) ∙ q)
 
   numbers_lead : host_transition n (suc i) (Participant.state_number p) (Participant.heard_of p) (event_number e) (detail_number e) (answer_number e) ≡ on_event (full n) i p e
-  numbers_lead = ap₂ (λ (k : ℕ) (x : Participant). on_event (full n) k x (event_of (event_number e) (detail_number e) (answer_number e))) (omega arith) (participant_numbers.decoded p) ∙ ap (on_event (full n) i p) (event_numbers.decoded e)
+  numbers_lead = ap₂ (λ (k : ℕ) (x : Participant). on_event (full n) k x (event_of (event_number e) (detail_number e) (answer_number e))) (let z : suc i - 1 ≡ i = omega arith in z) (participant_numbers.decoded p) ∙ ap (on_event (full n) i p) (event_numbers.decoded e)
 
 -- a call that the store performs is pending
 abbrev Pending : Call → Performed → Type 0

@@ -1,5 +1,5 @@
-// The host's entry: one participant, stepped from C on document 01's numbers. `own` is a participant's number; `place` is that less one;
-// `all` is the mask of all participants.
+// The host's entry: one participant, stepped on document 01's numbers; the crate `host_c` exports it to C. `own` is a participant's number;
+// `place` is that less one; `all` is the mask of all participants.
 #![tactic(auto)]
 
 ghost use Rattle.std.specs.Prelude.{◌≡◌, true, ◌≤◌, ◌<◌, length};
@@ -94,9 +94,8 @@ fn in_range(
     }
 }
 
-// What include/cornus.h declares. `answer` is the record that a log answers with.
-#[unsafe(no_mangle)]
-pub extern "C" fn cornus_participant_step(
+// What include/cornus.h declares, and host_c exports to C. `answer` is the record that a log answers with.
+pub fn cornus_participant_step(
     n: u32,
     own: u32,
     state: u32,

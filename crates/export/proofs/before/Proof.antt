@@ -9,5 +9,5 @@ before_spec =
     tie.close
     (tie.spec
     (λ c κs. search rules)
-    (λ c. simp (eq-eqb _ _ c.if1.true))
-    (λ c. simp (c.of.ensures, ne_eqb _ _ c.before.if1.false)))
+    (λ c. simp (eq-eqb _ _ c.if-told-eq0.true))
+    (λ c. simp (c.of.ensures, ne_eqb _ _ c.before.if-told-eq0.false)))

@@ -11,4 +11,4 @@ compare_log_once_spec =
     (λ c κs. search rules)
     (λ c κs. search rules)
     (λ c κs. search rules)
-    (λ c. simp (c.pack-entry.ensures, c.before.log-once-entry.ensures, c.before.before.of.ensures, c.before.before.before.pair.ensures)))
+    (λ c. simp (c.pack_entry.ensures, c.before.log_once_entry.ensures, c.before.before.of.ensures, c.before.before.before.pair.ensures)))

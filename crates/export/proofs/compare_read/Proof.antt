@@ -10,4 +10,4 @@ compare_read_spec =
     (λ c κs. search rules)
     (λ c κs. search rules)
     (λ c κs. search rules)
-    (λ c. simp (c.pack-read.ensures, c.before.read-record.ensures.0, c.before.before.before2.ensures)))
+    (λ c. simp (c.pack_read.ensures, c.before.read_record.ensures.0, c.before.before.before-2.ensures)))

@@ -10,6 +10,6 @@ pack_answer_spec =
     tie.close
     (tie.spec
     (λ c κs. search rules)
-    (λ c. omega (arith, c.before.number.ensures, record_most c.before.before.args.answer))
-    (λ c. rw c.if1.true (omega (arith, c.before.number.ensures)))
-    (λ c. rw c.if1.false (omega (arith, c.before.number.ensures))))
+    (λ c. omega (arith, c.before.number-number.ensures, record_most c.before.before.args.answer))
+    (λ c. rw c.if-wrote.true (omega (arith, c.before.number-number.ensures)))
+    (λ c. rw c.if-wrote.false (omega (arith, c.before.number-number.ensures))))

@@ -11,4 +11,4 @@ pack_log_spec =
     (λ c κs. search rules)
     (λ c κs. search rules)
     (λ c κs. search rules)
-    (λ c. simp (c.four.ensures, c.before.pack-answer.ensures, c.before.before.number2.ensures, c.before.before.before.number.ensures)))
+    (λ c. simp (c.four.ensures, c.before.pack_answer.ensures, c.before.before.number-2.ensures, c.before.before.before.number.ensures)))

@@ -9,4 +9,4 @@ pair_spec =
     (tie.spec
     (λ c κs. search rules)
     (λ c κs. search rules)
-    (λ c. simp (c.of2.ensures, c.before.of.ensures)))
+    (λ c. simp (c.of-2.ensures, c.before.of.ensures)))

@@ -11,9 +11,9 @@ in_range_spec =
     tie.close
     (tie.spec
     (λ c κs. search rules)
-    (λ c. (between 1 c.before.before.args.own c.before.before.args.n (sym c.before.between.ensures ∙ c.if1.true)).0)
-    (λ c κs. let o = between 1 c.before.before.args.own c.before.before.args.n (sym c.before.between.ensures ∙ c.if1.true) in omega (arith, o.0, o.1, c.before.before.requires.0))
+    (λ c. (between 1 c.before.before.args.own c.before.before.args.n (sym c.before.between.ensures ∙ c.if-between.true)).0)
+    (λ c κs. let o = between 1 c.before.before.args.own c.before.before.args.n (sym c.before.between.ensures ∙ c.if-between.true) in omega (arith, o.0, o.1, c.before.before.requires.0))
     (λ c κs. search rules)
-    (λ c. simp (c.numbers-in-range2.ensures, ← c.before.before.before.before.before.requires.1, sym c.before.before.numbers-in-range.ensures ∙ c.before.if2.true, sym c.before.before.before.before.between.ensures ∙ c.before.before.before.if1.true))
-    (λ c. simp (← c.before.before.before.before.requires.1, sym c.before.numbers-in-range.ensures ∙ c.if2.false, sym c.before.before.before.between.ensures ∙ c.before.before.if1.true))
-    (λ c. simp (sym c.before.between.ensures ∙ c.if1.false)))
+    (λ c. simp (c.numbers_in_range-then-numbers_in_range.ensures, ← c.before.before.before.before.before.requires.1, sym c.before.before.numbers_in_range.ensures ∙ c.before.if-numbers_in_range.true, sym c.before.before.before.before.between.ensures ∙ c.before.before.before.if-between.true))
+    (λ c. simp (← c.before.before.before.before.requires.1, sym c.before.numbers_in_range.ensures ∙ c.if-numbers_in_range.false, sym c.before.before.before.between.ensures ∙ c.before.before.if-between.true))
+    (λ c. simp (sym c.before.between.ensures ∙ c.if-between.false)))

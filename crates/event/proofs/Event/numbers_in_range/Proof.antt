@@ -11,5 +11,5 @@ numbers_in_range_spec =
     (λ c κs. search rules)
     (λ c κs. search rules)
     (λ c κs. search rules)
-    (λ c. simp (c.in-range.ensures, c.before.of.ensures, sym c.before.before.before.known.ensures ∙ c.before.before.if1.true))
-    (λ c. simp (sym c.before.known.ensures ∙ c.if1.false)))
+    (λ c. simp (c.in_range.ensures, c.before.of.ensures, sym c.before.before.before.known.ensures ∙ c.before.before.if-known.true))
+    (λ c. simp (sym c.before.known.ensures ∙ c.if-known.false)))

@@ -12,4 +12,4 @@ compare_run_from_spec =
     (λ c κs. search rules)
     (λ c κs. search rules)
     (λ c. search rules)
-    (λ c. (c.pack-written.ensures ∙ ap packed c.before.before.before.run-from.ensures.1, c.before.before.before.run-from.ensures.2)))
+    (λ c. (c.pack_written.ensures ∙ ap packed c.before.before.before.run_from.ensures.1, c.before.before.before.run_from.ensures.2)))
