@@ -35,7 +35,7 @@ fn mark_whole(
     ensures { IfOk result (λ n. (n ≤ length input.now) × FramesThen input.now (drop n input.now)) }
 {
     let mut at: usize = 0;
-    loop {
+    'parts: loop {
         let marked = mark_frames(&input[at..], report, output);
         let used = marked.used;
         if used == 0 {

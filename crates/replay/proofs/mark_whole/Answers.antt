@@ -3,22 +3,22 @@ use Rattle.std.proofs.Common.{◌≡◌, ◌+◌, ◌≤◌, length, take, arith
 use Rattle.frame.proofs.Frames.{Framed, framed_none, part_within, part_length_lem, part_lines, framed_more, framed_all}
 use Rattle.replay.proofs.mark_whole.Goals as goal
 
-pub loop-marked-init : goal.loop-marked-init
-loop-marked-init g c = (search rules, framed_none)
+pub parts-init : goal.parts-init
+parts-init g c = (search rules, framed_none)
 
 pub returns-then-used-eq0 : goal.returns-then-used-eq0
 returns-then-used-eq0 g c =
-    let turn = c.loop-marked in
+    let turn = c.parts in
     let part = c.mark_frames-marked in
     (turn.invariant.0, framed_all c.args.input.now turn.at part.ensures turn.invariant.1 c.if-used-eq0.true (omega arith))
 
 pub write_lines-requires : goal.write_lines-requires
-write_lines-requires g c = part_lines c.args.input.now c.loop-marked.at c.mark_frames-marked.ensures
+write_lines-requires g c = part_lines c.args.input.now c.parts.at c.mark_frames-marked.ensures
 
-pub loop-marked-preserved : goal.loop-marked-preserved
-loop-marked-preserved g c =
+pub parts-preserved : goal.parts-preserved
+parts-preserved g c =
     let input = c.args.input.now in
-    let turn = c.loop-marked in
+    let turn = c.parts in
     let part = c.mark_frames-marked in
     let passed : c.in_ok-at.field-0 ≡ part.result.used = c.in_ok-at.ensures ∙ part_length_lem input turn.at part.ensures in
     let within : turn.at + part.result.used ≤ length input = part_within input turn.at part.ensures turn.invariant.0 in
