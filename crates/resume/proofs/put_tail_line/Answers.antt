@@ -10,7 +10,9 @@ there : (c : In-Done) → TailThere c.args.tail.now c.args.rest.now c.args.repor
 there c = rw c.in-Done.ensures.2 (tail_there c.args.tail.now c.args.rest.now c.args.report.now c.in-Done.end (sym c.in-Done.ensures.0))
 
 pub overflow_sub-start : goal.overflow_sub-start
-overflow_sub-start c = (there (goal.at.overflow_sub-start c).In-Done).start
+overflow_sub-start c =
+    let t = there (goal.at.overflow_sub-start c).In-Done in
+    omega (arith, t.start)
 
 pub put_hexadecimal-digits-requires : goal.put_hexadecimal-digits-requires
 put_hexadecimal-digits-requires c =
