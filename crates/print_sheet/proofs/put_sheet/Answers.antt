@@ -1,5 +1,5 @@
 -- `print_sheet::put_sheet` meets its contract: the lines of the sheet that was written, or the refusal's. Assumes nothing.
-use Rattle.std.proofs.Common.{arith, sym, length-take-le}
+use Rattle.std.proofs.Common.{arith}
 use Rattle.print_sheet.proofs.Whole.{There, Outside, there, outside, sheet_short, lines_put, refusal_short, refusal_put}
 use Rattle.print_sheet.proofs.put_sheet.Goals as goal
 use Rattle.print_sheet.proofs.put_sheet.Goals.{In-Done, In-Refused}
