@@ -6,6 +6,7 @@ use Rattle.replay.proofs.keep_rest.Goals as goal
 
 module _ (old : List ℕ) (from : ℕ) (input : List ℕ) (i : ℕ) (same : length input ≡ length old) (room : from + i < length old)
     (moved : take i input ≡ take i (drop from old)) (rest : drop i input ≡ drop i old) where
+  -- the next byte is the one that stood there before
   read : get_or input (from + i) 0 ≡ get_or (drop from old) i 0
   read =
       let turned : from + i ≡ i + from = omega arith in
@@ -16,6 +17,7 @@ module _ (old : List ℕ) (from : ℕ) (input : List ℕ) (i : ℕ) (same : leng
       ∙ ap (λ j. get_or old j 0) (sym turned)
       ∙ sym (get_or-drop from old i 0)
 
+  -- those after it are as they were
   after : drop (suc i) input ≡ drop (suc i) old
   after =
       ap (λ j. drop j input) (sym (add-one i))
