@@ -1,15 +1,15 @@
 -- `totals::run_schedule` meets its contract: from the fresh release of its header. Assumes nothing.
 use mathlib.Core.Path.{◌∙◌}
-use Prim.Native.Nat.{suc, ◌+◌, ◌≤◌}
+use Prim.Native.Nat.{suc}
 use native.Mathlib.Omega.{arith}
-use lib.ListN.{length, take, drop}
+use lib.ListN.{take, drop}
 use Rattle.store.specs.Log.{places}
 use Rattle.schedule.specs.Record.{header_record, record_length}
 use Rattle.state.specs.Fields.{fields, counts_from, release_in}
 use Rattle.passes.specs.Pass.{reading_from, steps_of, fresh_of, Leaves}
 use Rattle.passes.proofs.Begun.{begun}
 use Rattle.totals.specs.Adding.{Entries}
-use Rattle.totals.proofs.Run.{few_steps, numbers_long, run_sum, run_entries, run_added, run_bytes}
+use Rattle.totals.proofs.Run.{few_steps, run_sum, run_entries, run_added, run_bytes}
 use Rattle.totals.proofs.run_schedule.Goals as goal
 use Rattle.totals.proofs.run_schedule.Goals.{After-run_steps}
 
@@ -22,10 +22,6 @@ left : (c : After-run_steps) →
 left c = rw (c.first_step-start.ensures, c.fresh-numbers.ensures, c.empty.ensures) at c.run_steps.ensures
 
 -- its numbers end with the counts
-
-long : (c : After-run_steps) → counts_from + suc places ≤ length c.run_steps.new.numbers
-long c = numbers_long c.args.part.now c.args.context c.args.steps c.requires.0 (left c)
-
 entries : (c : After-run_steps) → Entries (take (suc places) (drop counts_from c.run_steps.new.numbers))
 entries c = run_entries c.args.part.now c.args.context c.args.steps c.requires.0 (left c)
 

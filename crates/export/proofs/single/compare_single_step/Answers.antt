@@ -2,12 +2,10 @@
 use mathlib.Core.Path.{◌≡◌, sym, ap, ◌∙◌}
 use mathlib.Core.Bool.{cond}
 use lib.ListN.{length}
-use borrow.Author.Tests.{lt-ltb, le-ltb}
-use borrow.Author.Rules.{rules}
+use borrow.Author.Tests.{le-ltb}
 use Rattle.tail.specs.Single.{single_step}
 use Rattle.form.specs.Form.{wide, tail_length, tail_at}
-use Rattle.form.proofs.Fits.{form_fits}
-use Rattle.export.specs.Types.{Kind, Form, Tail}
+use Rattle.export.specs.Types.{Form, Tail}
 use Rattle.export.specs.State.{stepped_packed, stepped_leaves}
 use Rattle.export.proofs.Room.{hands_tail}
 use Rattle.export.proofs.single.compare_single_step.Goals as goal
