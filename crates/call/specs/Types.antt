@@ -2,12 +2,8 @@
 pub use Rattle.store.specs.declared.LogPair.{LogPair}
 pub use Rattle.store.specs.declared.Store.{Store}
 pub use Rattle.store.specs.declared.Logged.{Logged}
-pub use Rattle.store.specs.declared.Performed.{Performed}
 pub use Rattle.participant.specs.declared.Participant.{Participant}
-pub use Rattle.participant.specs.declared.Transition.{Transition}
-pub use Rattle.participant.specs.declared.Transition.TheVariants.{NotDue, To}
 pub use Rattle.coordinator.specs.declared.Coordinator.{Coordinator}
-pub use Rattle.coordinator.specs.declared.Transition.{Transition as CoordinatorTransition}
 pub use Rattle.rules.specs.declared.Outcome.{Outcome}
 pub use Rattle.rules.specs.declared.Release.{Release}
 pub use Rattle.rules.specs.declared.Report.{Report}

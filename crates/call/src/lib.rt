@@ -13,10 +13,11 @@ ghost use Rattle.call.specs.Steps.{Steps, Calls, CanCount};
 
 use coordinator::Coordinator;
 use effect::{coordinator_to, participant_to};
+use message::Transition;
 use participant::Participant;
 use rules::Outcome;
 use state::{FIELDS, coordinator, count_call, participant_at};
-use store::{LogPair, Logged, Performed, Store};
+use store::{LogPair, Logged, Store};
 
 // What a step reports, whether it closed another's log, and the store after it.
 #[derive(Clone, Copy)]
@@ -27,13 +28,13 @@ pub struct Stepped {
 }
 
 impl Stepped {
-    pub fn new(o: Outcome, closed: bool, store: Store) -> Stepped
-        ensures { result ≡ record { outcome = o; closed = closed; store = store } }
+    pub fn new(outcome: Outcome, closed: bool, store: Store) -> Stepped
+        ensures { result ≡ record { outcome = outcome; closed = closed; store = store } }
     {
         Stepped {
-            outcome: o,
-            closed: closed,
-            store: store,
+            outcome,
+            closed,
+            store,
         }
     }
 }
@@ -43,7 +44,7 @@ fn closes(p: u32, j: u32, l: Logged) -> bool
     requires { j < places }
     ensures { result ≡ closes p j l }
 {
-    if l.wrote_abort() { p != j + 1 } else { false }
+    l.wrote_abort() && p != j + 1
 }
 
 // What a call reports, whether it closed another's log, and its log after it.
@@ -55,13 +56,13 @@ struct Called {
 }
 
 impl Called {
-    fn new(o: Outcome, closed: bool, log: LogPair) -> Called
-        ensures { result ≡ record { outcome = o; closed = closed; log = log } }
+    fn new(outcome: Outcome, closed: bool, log: LogPair) -> Called
+        ensures { result ≡ record { outcome = outcome; closed = closed; log = log } }
     {
         Called {
-            outcome: o,
-            closed: closed,
-            log: log,
+            outcome,
+            closed,
+            log,
         }
     }
 }
@@ -74,21 +75,20 @@ fn participant_answered(
     i: u32,
     j: u32,
     l: Logged,
-    t: participant::Transition,
+    t: Transition<Participant>,
 ) -> Called
     requires { (i < places) × (j < places) × CanCount fields.old }
     ensures { (all : ℕ) → Calls all j (participant_answered heard i j l t) fields.old log result.outcome result.closed fields.new result.log }
 {
     match t {
-        participant::Transition::NotDue => Called::new(Outcome::Idle, false, log),
-        participant::Transition::To(p, s) => {
+        None => Called::new(Outcome::Idle, false, log),
+        Some((p, s)) => {
             let closed = closes(i + 1, j, l);
-            let next = l.log;
             count_call(fields, i + 1);
             if heard {
-                Called::new(participant_to(fields, i, p, s), closed, next)
+                Called::new(participant_to(fields, i, p, s), closed, l.log)
             } else {
-                Called::new(Outcome::Moved, closed, next)
+                Called::new(Outcome::Moved, closed, l.log)
             }
         }
     }
@@ -103,16 +103,23 @@ fn participant_performed(
     i: u32,
     j: u32,
     p: Participant,
-    l: Performed,
+    l: Option<Logged>,
 ) -> Called
     requires { (i < places) × (j < places) × CanCount fields.old × (p ≡ participant_in fields.old i) }
     ensures { Calls all j (participant_performed heard i j l) fields.old log result.outcome result.closed fields.new result.log }
 {
     match l {
-        Performed::Refused => Called::new(Outcome::Idle, false, log),
-        Performed::Done(done) => {
-            let answer = done.answer;
-            participant_answered(fields, log, heard, i, j, done, p.answer(all, i, j, answer))
+        None => Called::new(Outcome::Idle, false, log),
+        Some(done) => {
+            participant_answered(
+                fields,
+                log,
+                heard,
+                i,
+                j,
+                done,
+                p.answer(all, i, j, done.answer),
+            )
         }
     }
 }
@@ -141,21 +148,20 @@ fn coordinator_answered(
     heard: bool,
     j: u32,
     l: Logged,
-    t: coordinator::Transition,
+    t: Transition<Coordinator>,
 ) -> Called
     requires { (j < places) × CanCount fields.old }
     ensures { Calls all j (coordinator_answered heard j l t) fields.old log result.outcome result.closed fields.new result.log }
 {
     match t {
-        coordinator::Transition::NotDue => Called::new(Outcome::Idle, false, log),
-        coordinator::Transition::To(c, s) => {
+        None => Called::new(Outcome::Idle, false, log),
+        Some((c, s)) => {
             let closed = closes(0, j, l);
-            let next = l.log;
             count_call(fields, 0);
             if heard {
-                Called::new(coordinator_to(fields, all, c, s), closed, next)
+                Called::new(coordinator_to(fields, all, c, s), closed, l.log)
             } else {
-                Called::new(Outcome::Moved, closed, next)
+                Called::new(Outcome::Moved, closed, l.log)
             }
         }
     }
@@ -168,16 +174,23 @@ fn coordinator_performed(
     heard: bool,
     j: u32,
     c: Coordinator,
-    l: Performed,
+    l: Option<Logged>,
 ) -> Called
     requires { (j < places) × CanCount fields.old × (c ≡ coordinator_in fields.old) }
     ensures { Calls all j (coordinator_performed heard j l) fields.old log result.outcome result.closed fields.new result.log }
 {
     match l {
-        Performed::Refused => Called::new(Outcome::Idle, false, log),
-        Performed::Done(done) => {
-            let answer = done.answer;
-            coordinator_answered(fields, log, all, heard, j, done, c.answer(all, j, answer))
+        None => Called::new(Outcome::Idle, false, log),
+        Some(done) => {
+            coordinator_answered(
+                fields,
+                log,
+                all,
+                heard,
+                j,
+                done,
+                c.answer(all, j, done.answer),
+            )
         }
     }
 }
@@ -228,7 +241,5 @@ pub fn calls(
     ensures { Steps all (calls heard p (suc j)) fields.old store result.outcome result.closed fields.new result.store }
 {
     let x = party_calls(fields, store.log_at(j as usize), all, heard, p, j);
-    let outcome = x.outcome;
-    let log = x.log;
-    Stepped::new(outcome, x.closed, store.with_log(j as usize, log))
+    Stepped::new(x.outcome, x.closed, store.with_log(j as usize, x.log))
 }

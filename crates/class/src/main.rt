@@ -3,26 +3,23 @@
 
 ghost use Rattle.std.specs.Prelude.{◌≡◌, ◌≤◌, ◌<◌, length, take};
 ghost use Rattle.schedule.specs.Record.{longest};
-ghost use Rattle.summary.specs.Summary.{summary, longest_summary};
+ghost use Rattle.summary.specs.Summary.{summary};
 
 use input::read_full;
 use schedule::LONGEST;
 use std::io;
 use std::io::Read;
 use summary::{LONGEST_SUMMARY, summarize};
-use writer::Written;
 
-// Summarizes a file in a text that has room for every summary. Answers the summary's length.
-fn summarize_whole(file: &[u8], text: &mut [u8]) -> usize
-    requires { longest_summary ≤ length text.old }
+// Room for every summary.
+type Text = [u8; LONGEST_SUMMARY];
+
+// Summarizes a file in a text. Answers the summary's length.
+fn summarize_whole(file: &[u8], text: &mut Text) -> usize
     ensures { (result ≤ length text.new) × (take result text.new ≡ summary file.now) }
 {
-    let written = summarize(file, text);
-    match written {
-        Written::Done(end) => end,
-        // That there is room rules this out.
-        Written::Refused(_, needed) => needed,
-    }
+    // That there is room rules a refusal out.
+    summarize(file, text).unwrap_or(0)
 }
 
 // Writes a text out, which must be the summary of the file. The file is handed in so that the contract can say so.
@@ -37,9 +34,9 @@ fn print_figures(
     rt: &impl Print,
     reader: &mut impl Read,
     file: &mut [u8],
-    text: &mut [u8],
+    text: &mut Text,
 ) -> io::Result<()>
-    requires { (longest < length file.old) × (longest_summary ≤ length text.old) }
+    requires { longest < length file.old }
 {
     let length = read_full(reader, file)?;
     let end = summarize_whole(&file[..length], text);

@@ -1,31 +1,31 @@
 -- The rules of the coordinator as a table, in document 01's numbers: what each rule leads to from every state. Demand 3 does not refuse every wrong rule: it
 -- holds of one that takes a reply abort in 2. One theorem covers the table, proved in proofs/Cases.antt. Assumes nothing.
-use Rattle.std.specs.Prelude.{◌≡◌, List, [], ◌∷◌, map, ℕ}
+use Rattle.std.specs.Prelude.{◌≡◌, List, [], ◌∷◌, map, ℕ, Option, Some, None}
 use Rattle.mask.specs.Mask.{full}
 use Rattle.store.specs.Log.{record_of}
-use Rattle.message.specs.Message.{sent_number}
-use Rattle.coordinator.specs.Types.{Call, Coordinator, CoordinatorTransition}
+use Rattle.message.specs.Message.{Transition, sent_number}
+use Rattle.coordinator.specs.Types.{Call, Coordinator}
 use Rattle.coordinator.specs.Coordinator.{state_number, heard_of, of_numbers, on_start, on_reply_yes, on_reply_abort, on_timeout, pending, on_answer, on_crash, on_restart}
 
 -- in 1 and 2 this heard mask, a rule, and where it leads from states 0 to 6
 pub record Case : Type 0 where
   pub heard : ℕ
-  pub rule : Coordinator → CoordinatorTransition
+  pub rule : Coordinator → Transition Coordinator
   pub must : List (List ℕ)
 
-abbrev pub case : ℕ → (Coordinator → CoordinatorTransition) → List (List ℕ) → Case
+abbrev pub case : ℕ → (Coordinator → Transition Coordinator) → List (List ℕ) → Case
 case heard rule must = record { heard = heard; rule = rule; must = must }
 
 abbrev pub states : ℕ → List Coordinator
 states h = map (λ s. of_numbers s h) (0 ∷ 1 ∷ 2 ∷ 3 ∷ 4 ∷ 5 ∷ 6 ∷ [])
 
 -- the next state, its heard mask, and the message type sent to all or 0; nothing where the rule is not due
-abbrev pub leads : CoordinatorTransition → List ℕ
-leads CoordinatorTransition.NotDue = []
-leads (CoordinatorTransition.To c m) = state_number c ∷ heard_of c ∷ sent_number m ∷ []
+abbrev pub leads : Transition Coordinator → List ℕ
+leads None = []
+leads (Some (c, m)) = state_number c ∷ heard_of c ∷ sent_number m ∷ []
 
 -- of three participants: the answer, by its number, of log 2
-abbrev pub answer : ℕ → Coordinator → CoordinatorTransition
+abbrev pub answer : ℕ → Coordinator → Transition Coordinator
 answer k c = on_answer (full 3) c 1 (record_of k)
 
 -- words of the table: not due; to a state; to 1 or 2 with a heard mask; to a state, with a message sent to all
@@ -66,17 +66,17 @@ cases =
 
 -- The calls pending on logs 1 to 3, by the number of their record: LogOnce(abort) in 2, on those unheard
 
-abbrev pub calls_on : Coordinator → List Call
+abbrev pub calls_on : Coordinator → List (Option Call)
 calls_on c = map (pending c) (0 ∷ 1 ∷ 2 ∷ [])
 
-abbrev pub once : ℕ → Call
-once k = Call.LogOnce (record_of k)
+abbrev pub once : ℕ → Option Call
+once k = Some (Call.LogOnce (record_of k))
 
-abbrev pub no_calls : List Call
-no_calls = Call.None ∷ Call.None ∷ Call.None ∷ []
+abbrev pub no_calls : List (Option Call)
+no_calls = None ∷ None ∷ None ∷ []
 
-abbrev pub calls : List (List Call)
-calls = no_calls ∷ no_calls ∷ (Call.None ∷ once 2 ∷ once 2 ∷ []) ∷ no_calls ∷ no_calls ∷ no_calls ∷ no_calls ∷ []
+abbrev pub calls : List (List (Option Call))
+calls = no_calls ∷ no_calls ∷ (None ∷ once 2 ∷ once 2 ∷ []) ∷ no_calls ∷ no_calls ∷ no_calls ∷ no_calls ∷ []
 
 pub record CasesHold : Type 0 where
   pub transitions : map (λ c. map (λ p. leads (c.rule p)) (states c.heard)) cases ≡ map (λ c. c.must) cases

@@ -1,11 +1,11 @@
 -- The rules of the coordinator, in document 01's order. `all` is the mask of all participants, `i` the place of the participant that replies,
 -- `j` the place of a log, `h` a heard mask. What the coordinator sends goes to all participants. Assumes nothing.
-use Rattle.std.specs.Prelude.{Bool, true, cond, not, ◌&&◌, [], ◌∷◌, ℕ, eqb, leb}
+use Rattle.std.specs.Prelude.{Bool, true, cond, not, ◌&&◌, [], ◌∷◌, ℕ, eqb, leb, Option}
 use Rattle.number.specs.Numbering.{numbered, are_numbers}
 use Rattle.mask.specs.Mask.{has, insert}
-use Rattle.coordinator.specs.Types.{LogRecord, Call, Message, Sent, Coordinator, CoordinatorTransition}
+use Rattle.message.specs.Message.{Transition, not_due, to, sends}
+use Rattle.coordinator.specs.Types.{LogRecord, Call, Message, Coordinator}
 use Rattle.coordinator.specs.declared.Coordinator.TheVariants.{Idle, Waiting, Terminating, Commit, Abort, Down, Retired}
-use Rattle.coordinator.specs.declared.Transition.TheVariants.{NotDue, To}
 
 -- States
 abbrev pub state_number : Coordinator → ℕ
@@ -50,36 +50,32 @@ in_range all Retired = true
 abbrev pub numbers_in_range : ℕ → ℕ → ℕ → Bool
 numbers_in_range all s h = is_coordinator s h && in_range all (of_numbers s h)
 
--- to a state, with nothing sent
-abbrev pub to : Coordinator → CoordinatorTransition
-to c = To c Sent.Nothing
-
 -- Entering 3 or 4 sends that decision to all
-abbrev pub enters : Coordinator → CoordinatorTransition
+abbrev pub enters : Coordinator → Transition Coordinator
 enters Idle = to Idle
 enters (Waiting h) = to (Waiting h)
 enters (Terminating h) = to (Terminating h)
-enters Commit = To Commit (Sent.Sends Message.Commit)
-enters Abort = To Abort (Sent.Sends Message.Abort)
+enters Commit = sends Message.Commit Commit
+enters Abort = sends Message.Abort Abort
 enters Down = to Down
 enters Retired = to Retired
 
 -- Start in 0 sends all requests, to 1
-abbrev pub on_start : Coordinator → CoordinatorTransition
-on_start Idle = To (Waiting 0) (Sent.Sends Message.Request)
-on_start (Waiting h) = NotDue
-on_start (Terminating h) = NotDue
-on_start Commit = NotDue
-on_start Abort = NotDue
-on_start Down = NotDue
-on_start Retired = NotDue
+abbrev pub on_start : Coordinator → Transition Coordinator
+on_start Idle = sends Message.Request (Waiting 0)
+on_start (Waiting h) = not_due
+on_start (Terminating h) = not_due
+on_start Commit = not_due
+on_start Abort = not_due
+on_start Down = not_due
+on_start Retired = not_due
 
 -- all heard gives 3
 abbrev pub unless_full : ℕ → ℕ → Coordinator → Coordinator
 unless_full all h c = cond (eqb h all) Commit c
 
 -- In 1, a yes reply is heard. Replies in other states have no effect
-abbrev pub on_reply_yes : ℕ → ℕ → Coordinator → CoordinatorTransition
+abbrev pub on_reply_yes : ℕ → ℕ → Coordinator → Transition Coordinator
 on_reply_yes all i Idle = to Idle
 on_reply_yes all i (Waiting h) = enters (unless_full all (insert i h) (Waiting (insert i h)))
 on_reply_yes all i (Terminating h) = to (Terminating h)
@@ -89,7 +85,7 @@ on_reply_yes all i Down = to Down
 on_reply_yes all i Retired = to Retired
 
 -- In 1, an abort reply gives 4. Replies in other states have no effect
-abbrev pub on_reply_abort : Coordinator → CoordinatorTransition
+abbrev pub on_reply_abort : Coordinator → Transition Coordinator
 on_reply_abort Idle = to Idle
 on_reply_abort (Waiting h) = enters Abort
 on_reply_abort (Terminating h) = to (Terminating h)
@@ -99,56 +95,56 @@ on_reply_abort Down = to Down
 on_reply_abort Retired = to Retired
 
 -- Timeout in 1 leads to 2, nothing heard; in 2 it clears the mask
-abbrev pub on_timeout : Coordinator → CoordinatorTransition
-on_timeout Idle = NotDue
+abbrev pub on_timeout : Coordinator → Transition Coordinator
+on_timeout Idle = not_due
 on_timeout (Waiting h) = to (Terminating 0)
 on_timeout (Terminating h) = to (Terminating 0)
-on_timeout Commit = NotDue
-on_timeout Abort = NotDue
-on_timeout Down = NotDue
-on_timeout Retired = NotDue
+on_timeout Commit = not_due
+on_timeout Abort = not_due
+on_timeout Down = not_due
+on_timeout Retired = not_due
 
 -- Its calls in 2 go by the participant's rules for 4, over all n logs, ending in 3 or 4
-abbrev pub pending : Coordinator → ℕ → Call
-pending Idle j = Call.None
-pending (Waiting h) j = Call.None
-pending (Terminating h) j = cond (has j h) Call.None (Call.LogOnce LogRecord.Abort)
-pending Commit j = Call.None
-pending Abort j = Call.None
-pending Down j = Call.None
-pending Retired j = Call.None
+abbrev pub pending : Coordinator → ℕ → Option Call
+pending Idle j = Option.None
+pending (Waiting h) j = Option.None
+pending (Terminating h) j = cond (has j h) Option.None (Option.Some (Call.LogOnce LogRecord.Abort))
+pending Commit j = Option.None
+pending Abort j = Option.None
+pending Down j = Option.None
+pending Retired j = Option.None
 
-abbrev pub on_heard : ℕ → ℕ → LogRecord → CoordinatorTransition
-on_heard all h LogRecord.None = NotDue
+abbrev pub on_heard : ℕ → ℕ → LogRecord → Transition Coordinator
+on_heard all h LogRecord.None = not_due
 on_heard all h LogRecord.Yes = enters (unless_full all h (Terminating h))
 on_heard all h LogRecord.Abort = enters Abort
 on_heard all h LogRecord.Commit = enters Commit
 
 -- the answer r of log j to the call pending there
-abbrev pub on_answer : ℕ → Coordinator → ℕ → LogRecord → CoordinatorTransition
-on_answer all Idle j r = NotDue
-on_answer all (Waiting h) j r = NotDue
+abbrev pub on_answer : ℕ → Coordinator → ℕ → LogRecord → Transition Coordinator
+on_answer all Idle j r = not_due
+on_answer all (Waiting h) j r = not_due
 on_answer all (Terminating h) j r = on_heard all (insert j h) r
-on_answer all Commit j r = NotDue
-on_answer all Abort j r = NotDue
-on_answer all Down j r = NotDue
-on_answer all Retired j r = NotDue
+on_answer all Commit j r = not_due
+on_answer all Abort j r = not_due
+on_answer all Down j r = not_due
+on_answer all Retired j r = not_due
 
 -- Crash leads to 5, restart from there to 6
-abbrev pub on_crash : Coordinator → CoordinatorTransition
+abbrev pub on_crash : Coordinator → Transition Coordinator
 on_crash Idle = to Down
 on_crash (Waiting h) = to Down
 on_crash (Terminating h) = to Down
 on_crash Commit = to Down
 on_crash Abort = to Down
-on_crash Down = NotDue
+on_crash Down = not_due
 on_crash Retired = to Down
 
-abbrev pub on_restart : Coordinator → CoordinatorTransition
-on_restart Idle = NotDue
-on_restart (Waiting h) = NotDue
-on_restart (Terminating h) = NotDue
-on_restart Commit = NotDue
-on_restart Abort = NotDue
+abbrev pub on_restart : Coordinator → Transition Coordinator
+on_restart Idle = not_due
+on_restart (Waiting h) = not_due
+on_restart (Terminating h) = not_due
+on_restart Commit = not_due
+on_restart Abort = not_due
 on_restart Down = to Retired
-on_restart Retired = NotDue
+on_restart Retired = not_due

@@ -2,6 +2,4 @@
 pub use Rattle.store.specs.declared.LogRecord.{LogRecord}
 pub use Rattle.store.specs.declared.Call.{Call}
 pub use Rattle.message.specs.declared.Message.{Message}
-pub use Rattle.message.specs.declared.Sent.{Sent}
 pub use Rattle.coordinator.specs.declared.Coordinator.{Coordinator}
-pub use Rattle.coordinator.specs.declared.Transition.{Transition as CoordinatorTransition}

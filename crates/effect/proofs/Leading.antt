@@ -5,6 +5,7 @@ use mathlib.Core.List.{List}
 use Prim.Native.Nat.{ℕ, suc, ◌-◌, ◌≤◌, ◌<◌}
 use native.Mathlib.Omega.{arith}
 use lib.ListN.{length-set}
+use Rattle.std.specs.Prelude.{Option}
 use Rattle.mask.specs.Mask.{has, full}
 use Rattle.store.specs.Log.{places}
 use Rattle.rules.specs.State.{message_place, mask_of, in_flight, participant_of}
@@ -12,7 +13,7 @@ use Rattle.rules.specs.Report.{known, coordinator_known, learnt}
 use Rattle.rules.specs.Step.{with_mask, reply, broadcast, participant_to, coordinator_to, idle}
 use Rattle.state.specs.Fields.{fields, HasPlaces, votes_in, coordinator_in, mask_in, participant_in, with_coordinator_in, with_mask_in, with_participant_in, Puts}
 use Rattle.state.proofs.Parts.{same_votes, coordinator_in_lem, participant_in_lem, mask_in_lem, with_coordinator_lem, with_mask_lem, with_participant_lem}
-use Rattle.effect.specs.Types.{Message, Sent, Participant, Coordinator, Outcome, Release, Report}
+use Rattle.effect.specs.Types.{Message, Participant, Coordinator, Outcome, Release, Report}
 use Rattle.effect.specs.Leads.{PutsUnder, Leads, LeadsUnder}
 
 -- the places and the store that changes leave
@@ -20,21 +21,21 @@ use Rattle.effect.specs.Leads.{PutsUnder, Leads, LeadsUnder}
 masked_places : (m : Message) (x : ℕ) (r : Release) → HasPlaces r → HasPlaces (with_mask m x r)
 masked_places m x r h = record { sites = h.sites; messages = length-set r.messages (message_place m) x ∙ h.messages; calls = h.calls }
 
-reply_places : (s : Sent) (i : ℕ) (r : Release) → HasPlaces r → HasPlaces (reply s i r)
-reply_places Sent.Nothing i r h = h
-reply_places (Sent.Sends m) i r h = masked_places m _ r h
+reply_places : (s : Option Message) (i : ℕ) (r : Release) → HasPlaces r → HasPlaces (reply s i r)
+reply_places Option.None i r h = h
+reply_places (Option.Some m) i r h = masked_places m _ r h
 
-reply_store : (s : Sent) (i : ℕ) (r : Release) → r.store ≡ (reply s i r).store
-reply_store Sent.Nothing i r = refl
-reply_store (Sent.Sends m) i r = refl
+reply_store : (s : Option Message) (i : ℕ) (r : Release) → r.store ≡ (reply s i r).store
+reply_store Option.None i r = refl
+reply_store (Option.Some m) i r = refl
 
-broadcast_places : (s : Sent) (r : Release) → HasPlaces r → HasPlaces (broadcast s r)
-broadcast_places Sent.Nothing r h = h
-broadcast_places (Sent.Sends m) r h = masked_places m _ r h
+broadcast_places : (s : Option Message) (r : Release) → HasPlaces r → HasPlaces (broadcast s r)
+broadcast_places Option.None r h = h
+broadcast_places (Option.Some m) r h = masked_places m _ r h
 
-broadcast_store : (s : Sent) (r : Release) → r.store ≡ (broadcast s r).store
-broadcast_store Sent.Nothing r = refl
-broadcast_store (Sent.Sends m) r = refl
+broadcast_store : (s : Option Message) (r : Release) → r.store ≡ (broadcast s r).store
+broadcast_store Option.None r = refl
+broadcast_store (Option.Some m) r = refl
 
 -- a mask of messages changed
 
@@ -42,12 +43,12 @@ pub masks : (f : ℕ → ℕ) (m : Message) (l : List ℕ) → Puts (λ r. with_
 masks f m l r h e =
     ap (λ x. with_mask_in m (f (mask_in x m)) x) e ∙ ap (λ x. with_mask_in m (f x) (fields r)) (mask_in_lem r h m) ∙ with_mask_lem r h m (f (mask_of r m))
 
-pub masks_all : (all : ℕ) (m : Message) (l : List ℕ) → PutsUnder all (broadcast (Sent.Sends m)) l (with_mask_in m all l)
+pub masks_all : (all : ℕ) (m : Message) (l : List ℕ) → PutsUnder all (broadcast (Option.Some m)) l (with_mask_in m all l)
 masks_all all m l r h q e = ap (with_mask_in m all) e ∙ ap (λ x. with_mask_in m x (fields r)) (sym q) ∙ with_mask_lem r h m (full r.n)
 
 -- a party goes to a state
 
-pub participant_goes_lem : (i : ℕ) (p : Participant) (s : Sent) (l k : List ℕ) → i < places → Puts (reply s i) l k
+pub participant_goes_lem : (i : ℕ) (p : Participant) (s : Option Message) (l k : List ℕ) → i < places → Puts (reply s i) l k
     → Leads (participant_to i p s) l (learnt (known (participant_in l i)) (known p)) (with_participant_in i p k)
 unfolding participant_to
 participant_goes_lem i p s l k g u r h e = (
@@ -57,7 +58,7 @@ participant_goes_lem i p s l k g u r h e = (
   refl,
 )
 
-pub coordinator_goes_lem : (all : ℕ) (c : Coordinator) (s : Sent) (l k : List ℕ) → PutsUnder all (broadcast s) l k
+pub coordinator_goes_lem : (all : ℕ) (c : Coordinator) (s : Option Message) (l k : List ℕ) → PutsUnder all (broadcast s) l k
     → LeadsUnder all (coordinator_to c s) l (learnt (coordinator_known (coordinator_in l)) (coordinator_known c)) (with_coordinator_in c k)
 unfolding coordinator_to
 coordinator_goes_lem all c s l k u r h q e = (

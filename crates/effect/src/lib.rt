@@ -13,7 +13,7 @@ ghost use Rattle.state.specs.Fields.{mask_in, Puts};
 ghost use Rattle.effect.specs.Leads.{PutsUnder, Leads, LeadsUnder};
 
 use coordinator::Coordinator;
-use message::{Decision, Message, Sent};
+use message::{Decision, Message, Transition};
 use outcome::{coordinator_known, known, learnt};
 use participant::Participant;
 use rules::Outcome;
@@ -21,27 +21,23 @@ use state::{
     FIELDS, coordinator, mask_of, participant_at, put_coordinator, put_mask, put_participant, votes,
 };
 
-// Participant i sends its reply.
-fn send(fields: &mut [u32; FIELDS], s: Sent, i: u32)
+// Participant i sends its reply, if there is one.
+fn send(fields: &mut [u32; FIELDS], sent: Option<Message>, i: u32)
     requires { i < places }
-    ensures { Puts (reply s i) fields.old fields.new }
+    ensures { Puts (reply sent i) fields.old fields.new }
 {
-    match s {
-        Sent::Nothing => {}
-        Sent::Sends(m) => {
-            let old = mask_of(fields, m);
-            put_mask(fields, m, mask::insert(old, i));
-        }
+    if let Some(m) = sent {
+        let old = mask_of(fields, m);
+        put_mask(fields, m, mask::insert(old, i));
     }
 }
 
 // The coordinator sends to all.
-fn send_all(fields: &mut [u32; FIELDS], all: u32, s: Sent)
-    ensures { PutsUnder all (broadcast s) fields.old fields.new }
+fn send_all(fields: &mut [u32; FIELDS], all: u32, sent: Option<Message>)
+    ensures { PutsUnder all (broadcast sent) fields.old fields.new }
 {
-    match s {
-        Sent::Nothing => {}
-        Sent::Sends(m) => put_mask(fields, m, all),
+    if let Some(m) = sent {
+        put_mask(fields, m, all);
     }
 }
 
@@ -61,7 +57,12 @@ pub fn take_out(fields: &mut [u32; FIELDS], m: Message, i: u32)
 }
 
 // Participant i goes to a state and sends its reply.
-pub fn participant_to(fields: &mut [u32; FIELDS], i: u32, p: Participant, s: Sent) -> Outcome
+pub fn participant_to(
+    fields: &mut [u32; FIELDS],
+    i: u32,
+    p: Participant,
+    s: Option<Message>,
+) -> Outcome
     requires { i < places }
     ensures { Leads (participant_to i p s) fields.old result fields.new }
 {
@@ -71,18 +72,23 @@ pub fn participant_to(fields: &mut [u32; FIELDS], i: u32, p: Participant, s: Sen
     learnt(known(old), known(p))
 }
 
-pub fn participant_goes(fields: &mut [u32; FIELDS], i: u32, t: participant::Transition) -> Outcome
+pub fn participant_goes(fields: &mut [u32; FIELDS], i: u32, t: Transition<Participant>) -> Outcome
     requires { i < places }
     ensures { Leads (participant_goes i t) fields.old result fields.new }
 {
     match t {
-        participant::Transition::NotDue => Outcome::Idle,
-        participant::Transition::To(p, s) => participant_to(fields, i, p, s),
+        None => Outcome::Idle,
+        Some((p, s)) => participant_to(fields, i, p, s),
     }
 }
 
 // The coordinator goes to a state and sends to all.
-pub fn coordinator_to(fields: &mut [u32; FIELDS], all: u32, c: Coordinator, s: Sent) -> Outcome
+pub fn coordinator_to(
+    fields: &mut [u32; FIELDS],
+    all: u32,
+    c: Coordinator,
+    s: Option<Message>,
+) -> Outcome
     ensures { LeadsUnder all (coordinator_to c s) fields.old result fields.new }
 {
     let old = coordinator(fields);
@@ -91,12 +97,12 @@ pub fn coordinator_to(fields: &mut [u32; FIELDS], all: u32, c: Coordinator, s: S
     learnt(coordinator_known(old), coordinator_known(c))
 }
 
-pub fn coordinator_goes(fields: &mut [u32; FIELDS], all: u32, t: coordinator::Transition) -> Outcome
+pub fn coordinator_goes(fields: &mut [u32; FIELDS], all: u32, t: Transition<Coordinator>) -> Outcome
     ensures { LeadsUnder all (coordinator_goes t) fields.old result fields.new }
 {
     match t {
-        coordinator::Transition::NotDue => Outcome::Idle,
-        coordinator::Transition::To(c, s) => coordinator_to(fields, all, c, s),
+        None => Outcome::Idle,
+        Some((c, s)) => coordinator_to(fields, all, c, s),
     }
 }
 
@@ -109,10 +115,10 @@ pub fn receive(fields: &mut [u32; FIELDS], all: u32, m: Message, i: u32) -> Outc
     let p = participant_at(fields, i);
     let vote = mask::has(votes(fields), i);
     match m {
-        Message::Request => participant_to(fields, i, p.request(vote), Sent::Nothing),
+        Message::Request => participant_to(fields, i, p.request(vote), None),
         Message::ReplyYes => coordinator_goes(fields, all, c.reply_yes(all, i)),
         Message::ReplyAbort => coordinator_goes(fields, all, c.reply_abort()),
-        Message::Commit => participant_to(fields, i, p.decision(Decision::Commit), Sent::Nothing),
-        Message::Abort => participant_to(fields, i, p.decision(Decision::Abort), Sent::Nothing),
+        Message::Commit => participant_to(fields, i, p.decision(Decision::Commit), None),
+        Message::Abort => participant_to(fields, i, p.decision(Decision::Abort), None),
     }
 }

@@ -1,6 +1,6 @@
 // What a step reports.
 ghost use Rattle.std.specs.Prelude.{◌≡◌};
-ghost use Rattle.rules.specs.Report.{outcome_number, moves, known, coordinator_known, learnt, report_byte};
+ghost use Rattle.rules.specs.Report.{moves, known, coordinator_known, learnt, report_byte};
 
 use coordinator::Coordinator;
 use participant::Participant;
@@ -10,32 +10,15 @@ use rules::{CLOSED, Outcome};
 pub fn moves(o: Outcome) -> bool
     ensures { result ≡ moves o }
 {
-    match o {
-        Outcome::Idle => false,
-        Outcome::Moved => true,
-        Outcome::Commit => true,
-        Outcome::Abort => true,
-    }
-}
-
-// The outcome's number.
-fn outcome_number(o: Outcome) -> u8
-    ensures { result ≡ outcome_number o }
-{
-    match o {
-        Outcome::Idle => 0,
-        Outcome::Moved => 1,
-        Outcome::Commit => 2,
-        Outcome::Abort => 3,
-    }
+    o != Outcome::Idle
 }
 
 // The report byte.
 pub fn report_byte(o: Outcome, closed: bool) -> u8
     ensures { result ≡ report_byte o closed }
 {
-    let k = outcome_number(o);
-    if closed { k + CLOSED } else { k }
+    let number = o as u8;
+    if closed { number + CLOSED } else { number }
 }
 
 // What a participant knows of the decision.
@@ -43,16 +26,9 @@ pub fn known(p: Participant) -> Outcome
     ensures { result ≡ known p }
 {
     match p {
-        Participant::Waiting => Outcome::Moved,
-        Participant::VotingYes => Outcome::Moved,
-        Participant::Closing => Outcome::Moved,
-        Participant::Uncertain => Outcome::Moved,
-        Participant::Terminating(_) => Outcome::Moved,
-        Participant::RecordingCommit => Outcome::Commit,
-        Participant::RecordingAbort => Outcome::Abort,
-        Participant::DoneCommit => Outcome::Commit,
-        Participant::DoneAbort => Outcome::Abort,
-        Participant::Down => Outcome::Moved,
+        Participant::RecordingCommit | Participant::DoneCommit => Outcome::Commit,
+        Participant::RecordingAbort | Participant::DoneAbort => Outcome::Abort,
+        _ => Outcome::Moved,
     }
 }
 
@@ -61,13 +37,9 @@ pub fn coordinator_known(c: Coordinator) -> Outcome
     ensures { result ≡ coordinator_known c }
 {
     match c {
-        Coordinator::Idle => Outcome::Moved,
-        Coordinator::Waiting(_) => Outcome::Moved,
-        Coordinator::Terminating(_) => Outcome::Moved,
         Coordinator::Commit => Outcome::Commit,
         Coordinator::Abort => Outcome::Abort,
-        Coordinator::Down => Outcome::Moved,
-        Coordinator::Retired => Outcome::Moved,
+        _ => Outcome::Moved,
     }
 }
 
@@ -76,9 +48,7 @@ pub fn learnt(old: Outcome, new: Outcome) -> Outcome
     ensures { result ≡ learnt old new }
 {
     match old {
-        Outcome::Idle => new,
-        Outcome::Moved => new,
-        Outcome::Commit => Outcome::Moved,
-        Outcome::Abort => Outcome::Moved,
+        Outcome::Commit | Outcome::Abort => Outcome::Moved,
+        _ => new,
     }
 }

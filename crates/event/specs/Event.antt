@@ -1,5 +1,5 @@
 -- The host's events, by number, detail and record; unused numbers are 0. Assumes nothing.
-use Rattle.std.specs.Prelude.{Bool, true, false, cond, ◌&&◌, [], ◌∷◌, ℕ, eqb}
+use Rattle.std.specs.Prelude.{Bool, true, false, cond, ◌&&◌, [], ◌∷◌, ℕ, eqb, Option, Some, None}
 use Rattle.number.specs.Numbering.{numbered, are_numbers3}
 use Rattle.store.specs.Log.{record_number, record_of}
 use Rattle.kind.specs.Step.{number_in_range}
@@ -74,3 +74,7 @@ event_in_range n (Event.Answer log r) = number_in_range 1 log n && is_written r
 
 abbrev pub numbers_in_range : ℕ → ℕ → ℕ → ℕ → Bool
 numbers_in_range n e d r = is_event e d r && event_in_range n (event_of e d r)
+
+-- the event among n with these numbers
+abbrev pub event_among : ℕ → ℕ → ℕ → ℕ → Option Event
+event_among n e d r = cond (numbers_in_range n e d r) (Some (event_of e d r)) None

@@ -2,7 +2,7 @@
 #![tactic(auto)]
 
 ghost use Rattle.std.specs.Prelude.{◌≡◌};
-ghost use Rattle.event.specs.Event.{vote_number, decision_number, decision_of, event_number, detail_number, answer_number, event_of, is_event, is_written, event_in_range, numbers_in_range};
+ghost use Rattle.event.specs.Event.{decision_number, decision_of, event_number, detail_number, answer_number, event_of, event_in_range, event_among};
 
 use kind::between;
 use message::Decision;
@@ -10,7 +10,7 @@ use store::LogRecord;
 
 // What happens to a participant: a vote request, with its own vote; the coordinator's decision; a timeout, a crash or a restart; the answer of
 // a log, by its number.
-#[derive(Clone, Copy)]
+#[derive(Clone, Copy, Debug, PartialEq, Eq)]
 pub enum Event {
     Request(bool),
     Decided(Decision),
@@ -38,23 +38,6 @@ fn decision_number(d: Decision) -> u32
     }
 }
 
-fn vote_number(vote: bool) -> u32
-    ensures { result ≡ vote_number vote }
-{
-    if vote { 1 } else { 0 }
-}
-
-fn is_written(r: LogRecord) -> bool
-    ensures { result ≡ is_written r }
-{
-    match r {
-        LogRecord::None => false,
-        LogRecord::Yes => true,
-        LogRecord::Abort => true,
-        LogRecord::Commit => true,
-    }
-}
-
 impl Event {
     // Its number, its detail and its record.
     fn number(self) -> u32
@@ -74,12 +57,10 @@ impl Event {
         ensures { result ≡ detail_number self }
     {
         match self {
-            Event::Request(vote) => vote_number(vote),
+            Event::Request(vote) => u32::from(vote),
             Event::Decided(d) => decision_number(d),
-            Event::Timeout => 0,
-            Event::Crash => 0,
-            Event::Restart => 0,
             Event::Answer(log, _) => log,
+            _ => 0,
         }
     }
 
@@ -87,17 +68,13 @@ impl Event {
         ensures { result ≡ answer_number self }
     {
         match self {
-            Event::Request(_) => 0,
-            Event::Decided(_) => 0,
-            Event::Timeout => 0,
-            Event::Crash => 0,
-            Event::Restart => 0,
             Event::Answer(_, r) => r.number(),
+            _ => 0,
         }
     }
 
     // The event with these numbers; where there is none, a request.
-    pub fn of(event: u32, detail: u32, answer: u32) -> Event
+    fn of(event: u32, detail: u32, answer: u32) -> Event
         ensures { result ≡ event_of event detail answer }
     {
         match event {
@@ -110,47 +87,22 @@ impl Event {
         }
     }
 
-    // Whether these are the numbers of an event.
-    fn known(event: u32, detail: u32, answer: u32) -> bool
-        ensures { result ≡ is_event event detail answer }
-    {
-        let e = Event::of(event, detail, answer);
-        if e.number() == event {
-            if e.detail() == detail {
-                e.answer() == answer
-            } else {
-                false
-            }
-        } else {
-            false
-        }
-    }
-
     // Whether an event among n can have its log and its record.
     fn in_range(self, n: u32) -> bool
         ensures { result ≡ event_in_range n self }
     {
         match self {
-            Event::Request(_) => true,
-            Event::Decided(_) => true,
-            Event::Timeout => true,
-            Event::Crash => true,
-            Event::Restart => true,
-            Event::Answer(log, r) => if between(1, log, n) {
-                is_written(r)
-            } else {
-                false
-            },
+            Event::Answer(log, r) => between(1, log, n) && r != LogRecord::None,
+            _ => true,
         }
     }
 
-    pub fn numbers_in_range(n: u32, event: u32, detail: u32, answer: u32) -> bool
-        ensures { result ≡ numbers_in_range n event detail answer }
+    // The event among n with these numbers, if there is one.
+    pub fn read(n: u32, event: u32, detail: u32, answer: u32) -> Option<Event>
+        ensures { result ≡ event_among n event detail answer }
     {
-        if Event::known(event, detail, answer) {
-            Event::of(event, detail, answer).in_range(n)
-        } else {
-            false
-        }
+        let e = Event::of(event, detail, answer);
+        let known = e.number() == event && e.detail() == detail && e.answer() == answer;
+        (known && e.in_range(n)).then_some(e)
     }
 }

@@ -1,7 +1,9 @@
 -- Worked sheets: request 2026-08's own, and how many schedules and bytes each sheet has. One theorem covers the table: proofs/Cases.antt. Assumes nothing.
-use Rattle.std.specs.Prelude.{◌≡◌, List, [], ◌∷◌, ℕ, length}
+use Rattle.std.specs.Prelude.{◌≡◌, List, [], ◌∷◌, map, ℕ, length, Result}
+use Rattle.number.specs.Refusal.{Handed, hands}
 use Rattle.number.specs.Table.{tabulate}
-use Rattle.exercises.specs.Types.{Written}
+use Rattle.writer.specs.Writer.{written_hands}
+use Rattle.exercises.specs.Types.{Refused}
 use Rattle.exercises.specs.Sheet.{sheet, sheet_bytes, header_for, sheet_answers}
 
 -- for n = 1 and mask 01: for k = 0 the header alone, for k = 1 `02`, `08 01`, `09 00`, `09 01` after the header
@@ -31,7 +33,7 @@ lengths n votes = tabulate 4 (λ k. length (sheet_bytes (header_for n votes) k))
 
 -- outside the bounds: nobody, three sites, a vote beyond n, four steps. That comes before a short buffer, which gets 6 with the length needed
 
-abbrev pub answers : List Written
+abbrev pub answers : List (Result ℕ Refused)
 answers =
     sheet_answers 4000 0 0x00 0
     ∷ sheet_answers 4000 3 0x00 0
@@ -44,22 +46,22 @@ answers =
     ∷ sheet_answers 2 1 0x00 0
     ∷ []
 
-abbrev pub answered : List Written
+abbrev pub answered : List Handed
 answered =
-    Written.Refused 5 0
-    ∷ Written.Refused 5 0
-    ∷ Written.Refused 5 0
-    ∷ Written.Refused 5 0
-    ∷ Written.Refused 5 0
-    ∷ Written.Refused 5 0
-    ∷ Written.Refused 6 3039
-    ∷ Written.Done 3039
-    ∷ Written.Refused 6 3
+    hands 5 0
+    ∷ hands 5 0
+    ∷ hands 5 0
+    ∷ hands 5 0
+    ∷ hands 5 0
+    ∷ hands 5 0
+    ∷ hands 6 3039
+    ∷ hands 0 3039
+    ∷ hands 6 3
     ∷ []
 
 pub record CasesHold : Type 0 where
   pub as_written : sheets ≡ written
-  pub refusals : answers ≡ answered
+  pub refusals : map written_hands answers ≡ answered
   -- under each vote mask
   pub one_site : tabulate 2 (counts 1) ≡ tabulate 2 (λ votes. 1 ∷ 4 ∷ 18 ∷ 94 ∷ [])
   pub two_sites : tabulate 4 (counts 2) ≡ tabulate 4 (λ votes. 1 ∷ 6 ∷ 41 ∷ 334 ∷ [])

@@ -1,15 +1,15 @@
 -- Request 2026-08, every short exercise: the sheet of all schedules under header 01 with exactly k steps, each due when its turn comes, in ascending
 -- order of their bytes, each exactly once. Assumes nothing.
-use Rattle.std.specs.Prelude.{Bool, cond, ◌&&◌, ℕ, zero, suc, leb}
+use Rattle.std.specs.Prelude.{Bool, cond, ◌&&◌, ℕ, zero, suc, leb, Result, Err}
 use mathlib.Core.List.{List, [], ◌∷◌, map, flatten}
-use Rattle.number.specs.Refusal.{Handed, out_of_range}
+use Rattle.number.specs.Refusal.{Handed, refused}
 use Rattle.number.specs.Table.{tabulate}
 use Rattle.schedule.specs.Record.{header_in_range}
 use Rattle.schedule.specs.Schedule.{schedule_bytes}
 use Rattle.writer.specs.Writer.{text_answer, text_left, written_hands}
 use Rattle.rules.specs.Step.{step, is_due}
 use Rattle.passes.specs.Pass.{fresh_of}
-use Rattle.exercises.specs.Types.{Message, Kind, Step, Header, Written, Release}
+use Rattle.exercises.specs.Types.{Refusal, Refused, Message, Kind, Step, Header, Release}
 
 -- all steps that the reader yields under n, in the order of their bytes: kind by kind
 
@@ -75,8 +75,8 @@ abbrev pub in_bounds : ℕ → ℕ → ℕ → Bool
 in_bounds n votes k = header_in_range (header_for n votes) && (leb n most_sites && leb k most_steps)
 
 -- Order: 5, which hands back 0; 6 with the length needed. Else the length written
-abbrev pub sheet_answers : ℕ → ℕ → ℕ → ℕ → Written
-sheet_answers room n votes k = cond (in_bounds n votes k) (text_answer room (sheet_bytes (header_for n votes) k)) (Written.Refused out_of_range 0)
+abbrev pub sheet_answers : ℕ → ℕ → ℕ → ℕ → Result ℕ Refused
+sheet_answers room n votes k = cond (in_bounds n votes k) (text_answer room (sheet_bytes (header_for n votes) k)) (Err (refused Refusal.OutOfRange 0))
 
 -- what the answer hands over
 abbrev pub sheet_hands : ℕ → ℕ → ℕ → ℕ → Handed

@@ -1,10 +1,11 @@
 -- What is handed over as one number, for C. Assumes nothing.
-use Rattle.std.specs.Prelude.{Bool, cond, ℕ, ◌+◌, ◌*◌, ◌%◌, eqb}
-use Rattle.number.specs.Refusal.{Handed}
+use Rattle.std.specs.Prelude.{Bool, cond, ℕ, ◌+◌, ◌*◌, ◌%◌, eqb, Option, Some, None, Ok, Err}
+use Rattle.number.specs.Refusal.{Handed, refusal_number}
 use Rattle.store.specs.Log.{record_number, record_of}
 use Rattle.store.specs.Entry as Entry
 use Rattle.kind.specs.Kind.{kind_number, kind_of}
-use Rattle.export.specs.Types.{LogPair, Before, Read}
+use Rattle.schedule.specs.Reader.{Read}
+use Rattle.export.specs.Types.{LogPair, Header}
 
 -- the refusal's number or 0 in the upper 32 bits, the place or the length in the lower ones
 abbrev pub packed : Handed → ℕ
@@ -20,12 +21,12 @@ seven_bytes a b c x = four_bytes a b c 0 + 16777216 * x
 
 -- a record: its kind, its first number, its length, its second number; or 0, the refusal's number, 0, the place
 abbrev pub read_packed : Read → ℕ
-read_packed (Read.Record r l) = seven_bytes (kind_number r.kind) r.first (l % 256) r.second
-read_packed (Read.Refused k place) = seven_bytes 0 k 0 (place % 4294967296)
+read_packed (Ok (r, l)) = seven_bytes (kind_number r.kind) r.first (l % 256) r.second
+read_packed (Err k) = seven_bytes 0 (refusal_number k.refusal) 0 (k.value % 4294967296)
 
 -- the header that came before, by the number of its kind, or none
-abbrev pub before_of : ℕ → ℕ → ℕ → Before
-before_of told n votes = cond (eqb told 0) Before.Nothing (Before.Header (record { kind = kind_of told; n = n; votes = votes }))
+abbrev pub before_of : ℕ → ℕ → ℕ → Option Header
+before_of told n votes = cond (eqb told 0) None (Some (record { kind = kind_of told; n = n; votes = votes }))
 
 -- a log by the numbers of its records
 abbrev pub pair_of : ℕ → ℕ → LogPair

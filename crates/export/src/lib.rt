@@ -19,13 +19,13 @@ ghost use Rattle.export.specs.Packed.{packed, four_bytes, seven_bytes, read_pack
 use kind::Kind;
 use listing::list;
 use marker::run;
-use number::{OUT_OF_RANGE, REFUSED_BY_RULE, WRONG_RECORD};
-use schedule::Header;
-use schedule::reader::{Before, Read, read_record};
+use number::{Refusal, Refused};
+use schedule::reader::read_record;
+use schedule::{Header, Record};
 use sheet::write_sheet;
-use store::{EntryAnswer, LogPair, LogRecord};
+use store::{LogPair, LogRecord, Logged};
 use summary::summarize;
-use writer::{Written, write_record};
+use writer::write_record;
 
 // A refusal's number or 0 in the upper 32 bits, what is handed over with it in the lower ones.
 fn pack(number: u32, value: usize) -> u64
@@ -48,29 +48,31 @@ fn seven(a: u32, b: u32, c: u32, x: u32) -> u64
     four(a, b, c, 0) as u64 + 16777216 * (x as u64)
 }
 
-pub fn pack_written(w: Written) -> u64
+pub fn pack_written(w: Result<usize, Refused>) -> u64
     ensures { result ≡ packed (written_hands w) }
 {
     match w {
-        Written::Done(end) => pack(0, end),
-        Written::Refused(k, v) => pack(k, v),
+        Ok(end) => pack(0, end),
+        Err(refused) => pack(refused.refusal.number(), refused.value),
     }
 }
 
-fn pack_read(r: Read) -> u64
+fn pack_read(r: Result<(Record, usize), Refused>) -> u64
     ensures { result ≡ read_packed r }
 {
     match r {
-        Read::Record(found, length) => {
-            let kind = found.kind;
-            seven(
-                kind.number(),
-                found.first,
-                (length % 256) as u32,
-                found.second,
-            )
-        }
-        Read::Refused(k, place) => seven(0, k, 0, (place % 4294967296) as u32),
+        Ok((found, length)) => seven(
+            found.kind.number(),
+            found.first,
+            (length % 256) as u32,
+            found.second,
+        ),
+        Err(refused) => seven(
+            0,
+            refused.refusal.number(),
+            0,
+            (refused.value % 4294967296) as u32,
+        ),
     }
 }
 
@@ -85,40 +87,34 @@ fn pack_answer(answer: LogRecord, wrote: bool) -> u32
 fn pack_log(number: u32, log: LogPair, answer: LogRecord, wrote: bool) -> u32
     ensures { result ≡ entry_packed (record { number = number; answer = record_number answer; wrote = wrote; log = log }) }
 {
-    let first = log.first;
-    let last = log.last;
     four(
         number,
-        first.number(),
-        last.number(),
+        log.first.number(),
+        log.last.number(),
         pack_answer(answer, wrote),
     )
 }
 
-fn pack_entry(a: EntryAnswer) -> u32
-    ensures { result ≡ entry_packed (handed a) }
+// What an entry's answer for a log stands for.
+fn pack_entry(log: LogPair, a: Result<Logged, Refusal>) -> u32
+    ensures { result ≡ entry_packed (handed log a) }
 {
     match a {
-        EntryAnswer::Done(x) => {
-            let answer = x.answer;
-            pack_log(0, x.log, answer, x.wrote)
-        }
-        EntryAnswer::OutOfRange(log) => pack_log(OUT_OF_RANGE, log, LogRecord::None, false),
-        EntryAnswer::WrongRecord(log) => pack_log(WRONG_RECORD, log, LogRecord::None, false),
-        EntryAnswer::RefusedByRule(log) => pack_log(REFUSED_BY_RULE, log, LogRecord::None, false),
+        Ok(x) => pack_log(0, x.log, x.answer, x.wrote),
+        Err(refusal) => pack_log(refusal.number(), log, LogRecord::None, false),
     }
 }
 
-fn before(told: u32, n: u32, votes: u32) -> Before
+fn before(told: u32, n: u32, votes: u32) -> Option<Header>
     ensures { result ≡ before_of told n votes }
 {
     if told == 0 {
-        Before::Nothing
+        None
     } else {
-        Before::Header(Header {
+        Some(Header {
             kind: Kind::of(told),
-            n: n,
-            votes: votes,
+            n,
+            votes,
         })
     }
 }
@@ -190,12 +186,14 @@ pub extern "C" fn compare_read(bytes: &[u8], told: u32, n: u32, votes: u32) -> u
 pub extern "C" fn compare_log_once(first: u32, last: u32, answer: u32) -> u32
     ensures { result ≡ entry_packed (log_once_entry (pair_of first last) (record_of answer)) }
 {
-    pack_entry(pair(first, last).log_once_entry(LogRecord::of(answer)))
+    let log = pair(first, last);
+    pack_entry(log, log.log_once_entry(LogRecord::of(answer)))
 }
 
 #[unsafe(no_mangle)]
 pub extern "C" fn compare_log(first: u32, last: u32, answer: u32) -> u32
     ensures { result ≡ entry_packed (log_entry (pair_of first last) (record_of answer)) }
 {
-    pack_entry(pair(first, last).log_entry(LogRecord::of(answer)))
+    let log = pair(first, last);
+    pack_entry(log, log.log_entry(LogRecord::of(answer)))
 }

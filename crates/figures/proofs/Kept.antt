@@ -9,7 +9,7 @@ use lib.Dec.{eqb, ltb}
 use lib.ListN.{length, take, drop, length-append}
 use lib.Seq.{take_at, drop_at}
 use borrow.Author.Tests.{le-ltb, ne_eqb, ltb-false, eqb-false}
-use Rattle.number.specs.Refusal.{empty_or_too_long}
+use Rattle.std.specs.Prelude.{Ok}
 use Rattle.kind.specs.Kind.{is_header, body_length}
 use Rattle.kind.specs.Step.{step_kind}
 use Rattle.kind.proofs.Numbers.{kind_numbers, step_no_header}
@@ -25,7 +25,7 @@ use Rattle.marker.specs.Run.{run_leaves}
 use Rattle.marker.proofs.Left.{answers, report_left}
 use Rattle.parts.specs.Parts.{parts, parts_up_to, part_length, rest_length}
 use Rattle.parts.proofs.Laws.{first_part, whole, rest_within}
-use Rattle.figures.specs.Types.{Kind, Step, Header, Record, Written}
+use Rattle.figures.specs.Types.{Kind, Step, Header, Record, Refusal}
 use Rattle.figures.specs.Class.{Schedule, ClassReading, Class, NoClass, with_schedule, part_then, read_parts, read_class, bytes_of, class_bytes, AllSchedulesInRange}
 use Rattle.figures.specs.Promises.{Runs, EachRuns, no_more, runs_and_then, SingleReports, ClassKept}
 use Rattle.figures.proofs.Single.{report_long, read_whole}
@@ -38,14 +38,14 @@ runs part s e =
     let long = report_long s in
     record {
       accepted = e;
-      answers = λ report room. answers fresh_of report e has (omega (arith, long)) ∙ ap Written.Done (sym long);
+      answers = λ report room. answers fresh_of report e has (omega (arith, long)) ∙ ap Ok (sym long);
       leaves = λ report room. ap (λ k. take k (run_leaves report part)) long ∙ report_left fresh_of report e has (omega (arith, long));
     }
 
 class_same : (xs ys : List Schedule) → Class xs ≡ Class ys → xs ≡ ys
 class_same xs ys e = cc
 
-class_refused : {A : Type 0} (k place : ℕ) (ys : List Schedule) → NoClass k place ≡ Class ys → A
+class_refused : {A : Type 0} (k : Refusal) (place : ℕ) (ys : List Schedule) → NoClass k place ≡ Class ys → A
 class_refused k place ys e = let z : ◌≡◌ {A = ℕ} 0 1 = cc in absurd (omega arith)
 
 read_each : (place : ℕ) (ps : List (List ℕ)) (ss : List Schedule) → read_parts place ps ≡ Class ss → EachRuns ps ss
@@ -64,10 +64,10 @@ accepted_file : (file : List ℕ) (ss : List Schedule) → read_class file ≡ C
 accepted_file file ss e = go (ltb longest (length file)) refl (eqb (length file) 0) refl e
   where
     go : (a : Bool) → ltb longest (length file) ≡ a → (b : Bool) → eqb (length file) 0 ≡ b
-        → cond a (NoClass empty_or_too_long 0) (cond b (NoClass empty_or_too_long 0) (read_parts 0 (parts file))) ≡ Class ss
+        → cond a (NoClass Refusal.EmptyOrTooLong 0) (cond b (NoClass Refusal.EmptyOrTooLong 0) (read_parts 0 (parts file))) ≡ Class ss
         → (length file ≤ longest) × (0 < length file) × (read_parts 0 (parts file) ≡ Class ss)
-    go true p b q e = class_refused empty_or_too_long 0 ss e
-    go false p true q e = class_refused empty_or_too_long 0 ss e
+    go true p b q e = class_refused Refusal.EmptyOrTooLong 0 ss e
+    go false p true q e = class_refused Refusal.EmptyOrTooLong 0 ss e
     go false p false q e = let some = eqb-false (length file) 0 q in (ltb-false longest (length file) p, omega (arith, some), e)
 
 pub single_reports : SingleReports
@@ -178,8 +178,9 @@ class_some file ss r h = go (parts file) (first_of file h) ss r
 -- a file that is not empty and not too long is read by its parts
 pub read_parts_lem : (file : List ℕ) → length file ≤ longest → 0 < length file → read_class file ≡ read_parts 0 (parts file)
 read_parts_lem file short some =
-    ap (λ b. cond b (NoClass empty_or_too_long 0) (cond (eqb (length file) 0) (NoClass empty_or_too_long 0) (read_parts 0 (parts file)))) (le-ltb longest (length file) short)
-    ∙ ap (λ b. cond b (NoClass empty_or_too_long 0) (read_parts 0 (parts file))) (ne_eqb (length file) 0 (λ e. omega (arith, e, some)))
+    ap (λ b. cond b (NoClass Refusal.EmptyOrTooLong 0) (cond (eqb (length file) 0) (NoClass Refusal.EmptyOrTooLong 0) (read_parts 0 (parts file))))
+    (le-ltb longest (length file) short)
+    ∙ ap (λ b. cond b (NoClass Refusal.EmptyOrTooLong 0) (read_parts 0 (parts file))) (ne_eqb (length file) 0 (λ e. omega (arith, e, some)))
 
 some_class : (ss : List Schedule) → 0 < length ss → 0 < length (class_bytes ss)
 unfolding flatten

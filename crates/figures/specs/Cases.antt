@@ -1,8 +1,9 @@
 -- Worked class files: their bytes, and what they must be answered. One theorem covers the table: proofs/Cases.antt. Assumes nothing.
-use Rattle.std.specs.Prelude.{◌≡◌, List, [], ◌∷◌, ◌++◌, map, ℕ, suc, ◌-◌, length, replicate}
+use Rattle.std.specs.Prelude.{◌≡◌, List, [], ◌∷◌, ◌++◌, map, ℕ, suc, ◌-◌, length, replicate, Result, Ok, Err}
+use Rattle.number.specs.Refusal.{refusal_number}
 use Rattle.store.specs.Log.{places}
-use Rattle.figures.specs.Types.{Totals, Answer}
-use Rattle.figures.specs.Figures.{refused_with, answer_with, class_answers}
+use Rattle.figures.specs.Types.{Refused, Totals, Figures}
+use Rattle.figures.specs.Figures.{class_answers}
 
 -- schedules to put into a file: P1 of document 01 has an abort and four calls, three of them by participant 1, P2 a commit and two, P3 an abort and one;
 -- two have a header alone; in the last one the coordinator and participant 32 make a call each
@@ -25,12 +26,22 @@ wide = 0x0B ∷ 0x09 ∷ 0xFF ∷ 0x01 ∷ 0x00 ∷ 0x00 ∷ []
 abbrev widest : List ℕ
 widest = 0x0B ∷ 0x20 ∷ 0xFF ∷ 0xFF ∷ 0xFF ∷ 0xFF ∷ 0x02 ∷ 0x08 ∷ 0x00 ∷ 0x06 ∷ 0x00 ∷ 0x01 ∷ 0x08 ∷ 0x20 ∷ 0x06 ∷ 0x20 ∷ 0x20 ∷ []
 
+-- figures, or the refusal's number and place
+
+pub data Answered : Type 0 where
+  gives : Figures → Answered
+  refuses : ℕ → ℕ → Answered
+
+abbrev pub answered : Result Figures Refused → Answered
+answered (Ok f) = gives f
+answered (Err r) = refuses (refusal_number r.refusal) r.value
+
 pub record ClassCase : Type 0 where
   pub file : List ℕ
-  pub must : Answer
+  pub must : Answered
 
 abbrev refused : List ℕ → ℕ → ℕ → ClassCase
-refused file k place = record { file = file; must = refused_with k place }
+refused file k place = record { file = file; must = refuses k place }
 
 -- the calls of the first parties; the others have none
 abbrev none_after : List ℕ → List ℕ
@@ -39,7 +50,7 @@ none_after calls = calls ++ replicate (suc places - length calls) 0
 -- totals, column, calls, and their mean with its remainder
 abbrev has : List ℕ → Totals → List ℕ → ℕ → ℕ → ℕ → ClassCase
 has file t column calls mean remainder =
-    record { file = file; must = answer_with (record { totals = t; column = column; calls = calls; mean = mean; remainder = remainder }) }
+    record { file = file; must = gives (record { totals = t; column = column; calls = calls; mean = mean; remainder = remainder }) }
 
 abbrev pub cases : List ClassCase
 cases =
@@ -66,4 +77,4 @@ cases =
     ∷ []
 
 abbrev pub CasesHold : Type 0
-CasesHold = map (λ c. class_answers c.file) cases ≡ map (λ c. c.must) cases
+CasesHold = map (λ c. answered (class_answers c.file)) cases ≡ map (λ c. c.must) cases

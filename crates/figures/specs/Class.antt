@@ -2,21 +2,20 @@
 -- place in the file. Assumes nothing.
 use Rattle.std.specs.Prelude.{◌≡◌, true, cond, ℕ, ◌+◌, eqb, ltb, length}
 use mathlib.Core.List.{List, [], ◌∷◌, map, flatten}
-use Rattle.number.specs.Refusal.{empty_or_too_long}
 use Rattle.kind.specs.Step.{AllInRange}
 use Rattle.schedule.specs.Record.{header_in_range, longest}
 use Rattle.schedule.specs.Schedule.{Reading, Accepted, Refused, read_schedule, schedule_bytes}
 use Rattle.parts.specs.Parts.{parts}
-use Rattle.figures.specs.Types.{Step, Header}
+use Rattle.figures.specs.Types.{Step, Header, Refusal}
 
 pub record Schedule : Type 0 where
   pub header : Header
   pub steps : List Step
 
--- the schedules of a file, or a refusal's number and place
+-- the schedules of a file, or a refusal and its place
 pub data ClassReading : Type 0 where
   Class : List Schedule → ClassReading
-  NoClass : ℕ → ℕ → ClassReading
+  NoClass : Refusal → ℕ → ClassReading
 
 abbrev pub with_schedule : Schedule → ClassReading → ClassReading
 with_schedule s (Class ss) = Class (s ∷ ss)
@@ -34,7 +33,8 @@ read_parts place (part ∷ rest) = part_then place (read_schedule part) (read_pa
 -- 1 for an empty file, and for one over 32,768 bytes; then each schedule's own refusals
 abbrev pub read_class : List ℕ → ClassReading
 read_class file =
-    cond (ltb longest (length file)) (NoClass empty_or_too_long 0) (cond (eqb (length file) 0) (NoClass empty_or_too_long 0) (read_parts 0 (parts file)))
+    cond (ltb longest (length file)) (NoClass Refusal.EmptyOrTooLong 0)
+    (cond (eqb (length file) 0) (NoClass Refusal.EmptyOrTooLong 0) (read_parts 0 (parts file)))
 
 -- schedules to bytes, one after another
 

@@ -1,13 +1,13 @@
 -- Requests 2026-06 and 2026-07, figures for a whole class, each taken from the single reports of its schedules. Assumes nothing.
-use Rattle.std.specs.Prelude.{Bool, false, cond, not, ◌&&◌, ◌||◌, List, [], ◌∷◌, map, ℕ, suc, ◌/◌, ◌%◌, eqb, length, replicate}
-use Rattle.number.specs.Refusal.{accepted}
+use Rattle.std.specs.Prelude.{Bool, false, cond, not, ◌&&◌, ◌||◌, List, [], ◌∷◌, map, ℕ, suc, ◌/◌, ◌%◌, eqb, length, replicate, Result, Ok, Err}
+use Rattle.number.specs.Refusal.{refused}
 use Rattle.number.specs.Table.{tabulate}
 use Rattle.store.specs.Log.{places}
 use Rattle.rules.specs.Report.{outcome_number, outcome_in}
 use Rattle.passes.specs.Pass.{fresh_of}
 use Rattle.form.specs.Form.{form_of, count_at}
 use Rattle.marker.specs.Report.{report_bytes, steps_left, tail_left}
-use Rattle.figures.specs.Types.{Outcome, Totals, Figures, Answer}
+use Rattle.figures.specs.Types.{Refusal, Refused, Outcome, Totals, Figures}
 use Rattle.figures.specs.Class.{Schedule, ClassReading, Class, NoClass, read_class}
 use Rattle.figures.specs.Sums.{sum, largest, first_place}
 
@@ -78,7 +78,7 @@ with_mean t column calls = record { totals = t; column = column; calls = calls; 
 abbrev pub figures_of : List Schedule → Figures
 figures_of ss = with_mean (totals_of ss) (column_of ss) (sum (map calls_in ss))
 
--- no total comes with a refusal
+-- the totals and the column of no schedule
 
 abbrev pub no_totals : Totals
 no_totals = record { schedules = 0; commit = 0; abort = 0; neither = 0; largest = 0; first = 0; sites = 0 }
@@ -86,17 +86,17 @@ no_totals = record { schedules = 0; commit = 0; abort = 0; neither = 0; largest 
 abbrev pub no_column : List ℕ
 no_column = replicate (suc places) 0
 
-abbrev pub refused_with : ℕ → ℕ → Answer
-refused_with k place =
-    record { number = k; place = place; figures = record { totals = no_totals; column = no_column; calls = 0; mean = 0; remainder = 0 } }
+-- no figures come with a refusal
+abbrev pub refused_with : Refusal → ℕ → Result Figures Refused
+refused_with k place = Err (refused k place)
 
-abbrev pub answer_with : Figures → Answer
-answer_with f = record { number = accepted; place = 0; figures = f }
+abbrev pub answer_with : Figures → Result Figures Refused
+answer_with f = Ok f
 
-abbrev pub class_answer : ClassReading → Answer
+abbrev pub class_answer : ClassReading → Result Figures Refused
 class_answer (Class ss) = answer_with (figures_of ss)
 class_answer (NoClass k place) = refused_with k place
 
 -- the entry: a file's bytes in, its figures out
-abbrev pub class_answers : List ℕ → Answer
+abbrev pub class_answers : List ℕ → Result Figures Refused
 class_answers file = class_answer (read_class file)

@@ -1,8 +1,8 @@
 -- What is promised of class figures, for every file: they are taken from the single runs, nothing of a file is lost, a refusal is the first from the
 -- left, each schedule counts once, no figure is too large, and the calls are the same by party and by schedule. Proved in proofs/. Assumes nothing.
-use Rattle.std.specs.Prelude.{◌≡◌, true, false, cond, ◌&&◌, ℕ, suc, ◌+◌, ◌-◌, ◌*◌, ◌≤◌, ◌<◌, length, get_or, take}
+use Rattle.std.specs.Prelude.{◌≡◌, true, false, cond, ◌&&◌, ℕ, suc, ◌+◌, ◌-◌, ◌*◌, ◌≤◌, ◌<◌, length, get_or, take, Ok}
 use mathlib.Core.List.{List, [], ◌∷◌, ◌++◌, flatten, map}
-use Rattle.number.specs.Refusal.{empty_or_too_long, header_misplaced, out_of_range}
+use Rattle.number.specs.Refusal.{refusal_number}
 use Rattle.store.specs.Log.{places}
 use Rattle.kind.specs.Kind.{kind_of, is_header}
 use Rattle.schedule.specs.Record.{longest}
@@ -14,7 +14,7 @@ use Rattle.rules.specs.Run.{calls_made}
 use Rattle.passes.specs.Pass.{fresh_of}
 use Rattle.marker.specs.Run.{run_answers, run_leaves}
 use Rattle.parts.specs.Parts.{parts}
-use Rattle.figures.specs.Types.{Step, Release, Outcome, Written, Figures}
+use Rattle.figures.specs.Types.{Step, Release, Outcome, Figures, Refusal}
 use Rattle.figures.specs.Class.{Schedule, Class, NoClass, read_class, bytes_of, class_bytes, ScheduleInRange, AllSchedulesInRange}
 use Rattle.figures.specs.Sums.{sum}
 use Rattle.figures.specs.Figures.{report_of, reports, calls_of, calls_in, sites_of, figures_of, answer_with, refused_with, class_answers}
@@ -24,7 +24,7 @@ use Rattle.figures.specs.Figures.{report_of, reports, calls_of, calls_in, sites_
 
 pub record Runs (part : List ℕ) (s : Schedule) : Type 0 where
   pub accepted : read_schedule part ≡ Accepted s.header s.steps
-  pub answers : (report : List ℕ) → length (report_of s) ≤ length report → run_answers (length report) part ≡ Written.Done (length (report_of s))
+  pub answers : (report : List ℕ) → length (report_of s) ≤ length report → run_answers (length report) part ≡ Ok (length (report_of s))
   pub leaves : (report : List ℕ) → length (report_of s) ≤ length report → take (length (report_of s)) (run_leaves report part) ≡ report_of s
 
 -- one after another
@@ -61,7 +61,7 @@ pub record ClassKept : Type 0 where
 
 -- Refusals: empty, too long; or, after schedules that are accepted by themselves, one that is not. The place counts in the file
 
-pub record StopsAt (file : List ℕ) (k place : ℕ) : Type 0 where
+pub record StopsAt (file : List ℕ) (k : Refusal) (place : ℕ) : Type 0 where
   pub before : List (List ℕ)
   pub done : List Schedule
   pub part : List ℕ
@@ -72,24 +72,27 @@ pub record StopsAt (file : List ℕ) (k place : ℕ) : Type 0 where
   pub refused : read_schedule part ≡ Refused k within
   pub there : place ≡ length (flatten before) + within
 
-pub data ClassRefusalOf (file : List ℕ) : ℕ → ℕ → Type 0 where
-  class_too_long : longest < length file → ClassRefusalOf file empty_or_too_long 0
-  class_empty : length file ≡ 0 → ClassRefusalOf file empty_or_too_long 0
-  at_schedule : {k place : ℕ} → length file ≤ longest → StopsAt file k place → ClassRefusalOf file k place
+pub data ClassRefusalOf (file : List ℕ) : Refusal → ℕ → Type 0 where
+  class_too_long : longest < length file → ClassRefusalOf file Refusal.EmptyOrTooLong 0
+  class_empty : length file ≡ 0 → ClassRefusalOf file Refusal.EmptyOrTooLong 0
+  at_schedule : {k : Refusal} {place : ℕ} → length file ≤ longest → StopsAt file k place → ClassRefusalOf file k place
 
 pub record FirstClassRefusal : Type 0 where
-  pub found : (file : List ℕ) (k place : ℕ) → read_class file ≡ NoClass k place → ClassRefusalOf file k place
-  pub given : (file : List ℕ) (k place : ℕ) → ClassRefusalOf file k place → read_class file ≡ NoClass k place
+  pub found : (file : List ℕ) (k : Refusal) (place : ℕ) → read_class file ≡ NoClass k place → ClassRefusalOf file k place
+  pub given : (file : List ℕ) (k : Refusal) (place : ℕ) → ClassRefusalOf file k place → read_class file ≡ NoClass k place
 
 -- What the entry answers: 0 and the figures of the schedules that are read; or the refusal, whose number is never 0, without a figure
 pub record ClassAnswered : Type 0 where
   pub figures : (file : List ℕ) (ss : List Schedule) → read_class file ≡ Class ss → class_answers file ≡ answer_with (figures_of ss)
-  pub refusal : (file : List ℕ) (k place : ℕ) → read_class file ≡ NoClass k place → class_answers file ≡ refused_with k place
-  pub number : (file : List ℕ) (k place : ℕ) → read_class file ≡ NoClass k place → (1 ≤ k) × (k ≤ out_of_range)
+  pub refusal : (file : List ℕ) (k : Refusal) (place : ℕ) → read_class file ≡ NoClass k place → class_answers file ≡ refused_with k place
+  pub number : (file : List ℕ) (k : Refusal) (place : ℕ) → read_class file ≡ NoClass k place
+      → (1 ≤ refusal_number k) × (refusal_number k ≤ refusal_number Refusal.OutOfRange)
 
 -- "with 4 only for a file that doesn't begin with a header"
 abbrev pub HeaderFirst : Type 0
-HeaderFirst = (file : List ℕ) (place : ℕ) → read_class file ≡ NoClass header_misplaced place → (place ≡ 0) × (is_header (kind_of (get_or file 0 0)) ≡ false)
+HeaderFirst =
+    (file : List ℕ) (place : ℕ) → read_class file ≡ NoClass Refusal.HeaderMisplaced place
+    → (place ≡ 0) × (is_header (kind_of (get_or file 0 0)) ≡ false)
 
 -- No schedule counts under commit and under abort, by demand 3; so each counts once
 

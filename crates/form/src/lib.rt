@@ -17,7 +17,7 @@ pub const COUNT_WIDTH: usize = 2;
 pub const TAIL: usize = 320;
 
 // How many participants have fields in a tail, and how many bytes a mask has.
-#[derive(Clone, Copy)]
+#[derive(Clone, Copy, Debug, PartialEq, Eq)]
 pub struct Form {
     pub places: usize,
     pub width: usize,
@@ -30,7 +30,7 @@ pub fn form_of(kind: Kind) -> Form
     let room = kind.room() as usize;
     Form {
         places: room,
-        width: (room + 7) / 8,
+        width: room.div_ceil(8),
     }
 }
 

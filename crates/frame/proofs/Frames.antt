@@ -3,47 +3,44 @@
 use mathlib.Core.Path.{◌≡◌, refl, sym, ap, ap₂, subst, ◌∙◌}
 use mathlib.Core.Logic.{◌⊎◌, ⊎_elim}
 use mathlib.Core.List.{List, [], ◌∷◌, ◌++◌, append_assoc}
-use Prim.Native.Nat.{ℕ, ◌+◌, ◌*◌, ◌-◌, ◌/◌, ◌%◌, ◌≤◌, ◌<◌}
+use Prim.Native.Nat.{ℕ, ◌+◌, ◌-◌, ◌/◌, ◌%◌, ◌≤◌, ◌<◌}
 use native.Mathlib.Omega.{arith}
 use lib.ListN.{length, get_or, take, drop, length-append, length-drop, take-append-drop}
-use lib.Seq.{sets, length-sets, length-take-le, take_at, drop_at, take-add, drop-drop, drop-cons}
+use lib.Seq.{sets, length-sets, length-take-le, take_at, drop_at, take-add, drop-drop, drop-cons, get_or-drop}
+use Rattle.std.specs.Prelude.{Option}
+use Rattle.std.proofs.Common.{Fits, w8}
+use Rattle.number.specs.Low.{low_number}
 use Rattle.text.specs.Put.{Put, each}
 use Rattle.text.proofs.Putting.{put_then, put_same, put_front, each_append, each_more}
 use Rattle.marker.specs.Run.{run_leaves}
 use Rattle.passes.proofs.Reading.{tail_part}
-use Rattle.frame.specs.Types.{Frame}
-use Rattle.frame.specs.Frame.{frame_of, line_of, longest_line, WholeFrame, NoFrame, BeginsWith, frames_of, lines_of, LinesOf, LinesDetermined, FramesThen, reports_left, EachHasRoom, MarkedUpTo, MarkedDetermined}
+use Rattle.frame.specs.Frame.{frame_of, line_of, longest_line, WholeFrame, NoFrame, BeginsWith, frames_of, lines_of, LinesOf, LinesDetermined}
+use Rattle.frame.specs.Frame.{FramesThen, reports_left, EachHasRoom, MarkedUpTo, MarkedDetermined}
 
 -- What the first two bytes tell
 
-module _ (bytes : List ℕ) where
-  pub no_length : length bytes < 2 → NoFrame bytes
-  no_length short = record { none = λ schedule rest e. omega (arith, ap length e, length-append (frame_of schedule) rest); few = omega arith }
-
-  module _ (low high : ℕ) (e₀ : low ≡ get_or bytes 0 0) (e₁ : high ≡ get_or bytes 1 0) (small : low < 256) where
-    pub incomplete : high < 256 → length bytes < 2 + (low + 256 * high) → NoFrame bytes
-    incomplete h short = record {
-      none = λ schedule rest e. omega (arith, ap length e, length-append (frame_of schedule) rest, ap (λ l. get_or l 0 0) e, ap (λ l. get_or l 1 0) e);
-      few = omega arith;
+pub whole : (bytes : List ℕ) (size : ℕ) → ((k : ℕ) → Fits w8 (get_or bytes k 0)) → size ≡ low_number 2 bytes → 2 + size ≤ length bytes
+    → WholeFrame bytes size
+whole bytes size small e enough =
+    let high : get_or (drop 1 bytes) 0 0 ≡ get_or bytes 1 0 = get_or-drop 1 bytes 0 0 in
+    let schedule : List ℕ = take size (drop 2 bytes) in
+    let long : length schedule ≡ size = length-take-le size (drop 2 bytes) (simp length-drop (omega arith)) in
+    let low-byte : get_or bytes 0 0 ≡ length schedule % 256 = omega (arith, long, e, high, small 0) in
+    let high-byte : get_or bytes 1 0 ≡ length schedule / 256 = omega (arith, long, e, high, small 0) in
+    record {
+      schedule = schedule;
+      rest = drop size (drop 2 bytes);
+      long = long;
+      split =
+          drop-cons bytes 0 0 (omega arith)
+          ∙ ap (λ l. get_or bytes 0 0 ∷ l) (drop-cons bytes 1 0 (omega arith))
+          ∙ ap₂ (λ (a : ℕ) (b : ℕ). a ∷ b ∷ drop 2 bytes) low-byte high-byte
+          ∙ ap (λ l. length schedule % 256 ∷ length schedule / 256 ∷ l) (sym (take-append-drop size (drop 2 bytes)));
     }
 
-    pub whole : 2 + (low + 256 * high) ≤ length bytes → WholeFrame bytes (low + 256 * high)
-    whole enough =
-        let size : ℕ = low + 256 * high in
-        let long : length (take size (drop 2 bytes)) ≡ size = length-take-le size (drop 2 bytes) (simp length-drop (omega arith)) in
-        record {
-          schedule = take size (drop 2 bytes);
-          rest = drop size (drop 2 bytes);
-          long = long;
-          split =
-              drop-cons bytes 0 0 (omega arith)
-              ∙ ap (λ l. get_or bytes 0 0 ∷ l) (drop-cons bytes 1 0 (omega arith))
-              ∙ ap₂ (λ (a : ℕ) (b : ℕ). a ∷ b ∷ drop 2 bytes) (let z : get_or bytes 0 0 ≡ length (take size (drop 2 bytes)) % 256 = omega (arith, long) in z) (let z : get_or bytes 1 0 ≡ length (take size (drop 2 bytes)) / 256 = omega (arith, long) in z)
-              ∙ ap (λ l. length (take size (drop 2 bytes)) % 256 ∷ length (take size (drop 2 bytes)) / 256 ∷ l) (sym (take-append-drop size (drop 2 bytes)));
-        }
-
 -- the frame that was found in the part from a place on
-pub found_in : (input : List ℕ) (at : ℕ) {f g : Frame} → f ≡ g → BeginsWith f (take (length input - at) (drop at input)) → BeginsWith g (drop at input)
+pub found_in : (input : List ℕ) (at : ℕ) {f g : Option ℕ} → f ≡ g → BeginsWith f (take (length input - at) (drop at input))
+    → BeginsWith g (drop at input)
 found_in input at {f} {g} e b =
     subst (λ l. BeginsWith g l) (tail_part input at) (subst (λ x. BeginsWith x (take (length input - at) (drop at input))) e b)
 
@@ -81,7 +78,13 @@ lines_before schedules [] after last schedule e = omega arith
 lines_before [] (b ∷ bs) after last schedule e = absurd (omega (arith, ap length e, length-append bs (schedule ∷ after)))
 lines_before (s ∷ ss) (b ∷ bs) after last schedule e =
     let same : s ≡ b = ap (λ l. get_or l 0 []) e in
-    omega (arith, ap (λ x. length (line_of x)) same, length-append (line_of b) (lines_of bs), length-append (line_of s) (lines_of ss), lines_before ss bs after last schedule (ap (drop 1) e))
+    omega (
+      arith,
+      ap (λ x. length (line_of x)) same,
+      length-append (line_of b) (lines_of bs),
+      length-append (line_of s) (lines_of ss),
+      lines_before ss bs after last schedule (ap (drop 1) e),
+    )
 
 -- A whole frame in the input, after some bytes that were used
 
@@ -97,7 +100,9 @@ module _ (input : List ℕ) (used size : ℕ) (w : WholeFrame (drop used input) 
 
   pub schedule_there : take (used + 2 + size - (used + 2)) (drop (used + 2) input) ≡ w.schedule
   schedule_there =
-      ap₂ (λ (n : ℕ) (l : List ℕ). take n l) (let z : used + 2 + size - (used + 2) ≡ size = omega arith in z) (sym (drop-drop 2 used input) ∙ ap (drop 2) w.split)
+      ap₂ (λ (n : ℕ) (l : List ℕ). take n l)
+      (let z : used + 2 + size - (used + 2) ≡ size = omega arith in z)
+      (sym (drop-drop 2 used input) ∙ ap (drop 2) w.split)
       ∙ take_at w.schedule w.rest size w.long
 
   pub rest_there : drop (used + 2 + size) input ≡ w.rest
@@ -126,7 +131,8 @@ module _ (input : List ℕ) (used size : ℕ) (w : WholeFrame (drop used input) 
   }
 
 pub marked : {input text₀ report₀ text report : List ℕ} {used filled : ℕ} → Marking input text₀ report₀ used filled text report → used ≤ length input
-    → filled ≤ length text → NoFrame (drop used input) ⊎ (length text₀ < filled + longest_line) → MarkedUpTo input text₀ report₀ used filled text report
+    → filled ≤ length text → NoFrame (drop used input) ⊎ (length text₀ < filled + longest_line)
+    → MarkedUpTo input text₀ report₀ used filled text report
 marked g taken fits stops = record {
   schedules = g.schedules;
   taken = taken;
@@ -180,16 +186,19 @@ more_after e m = record {
   begins = m.begins;
 }
 
-none_more : (xs ys : List (List ℕ)) (rest rest' : List ℕ) → frames_of xs ++ rest ≡ frames_of ys ++ rest' → (More xs ys rest → ⊥) → (More ys xs rest' → ⊥)
-    → xs ≡ ys
+none_more : (xs ys : List (List ℕ)) (rest rest' : List ℕ) → frames_of xs ++ rest ≡ frames_of ys ++ rest' → (More xs ys rest → ⊥)
+    → (More ys xs rest' → ⊥) → xs ≡ ys
 unfolding each
 none_more [] [] rest rest' e f g = refl
 none_more [] (y ∷ ys) rest rest' e f g =
-    absurd (f (record { next = y; after = ys; further = frames_of ys ++ rest'; split = refl; begins = e ∙ append_assoc (frame_of y) (frames_of ys) rest' }))
+    let begins = e ∙ append_assoc (frame_of y) (frames_of ys) rest' in
+    absurd (f (record { next = y; after = ys; further = frames_of ys ++ rest'; split = refl; begins = begins }))
 none_more (x ∷ xs) [] rest rest' e f g =
-    absurd (g (record { next = x; after = xs; further = frames_of xs ++ rest; split = refl; begins = sym e ∙ append_assoc (frame_of x) (frames_of xs) rest }))
+    let begins = sym e ∙ append_assoc (frame_of x) (frames_of xs) rest in
+    absurd (g (record { next = x; after = xs; further = frames_of xs ++ rest; split = refl; begins = begins }))
 none_more (x ∷ xs) (y ∷ ys) rest rest' e f g =
-    let first = frame_first x y (frames_of xs ++ rest) (frames_of ys ++ rest') (sym (append_assoc (frame_of x) (frames_of xs) rest) ∙ e ∙ append_assoc (frame_of y) (frames_of ys) rest') in
+    let split = sym (append_assoc (frame_of x) (frames_of xs) rest) ∙ e ∙ append_assoc (frame_of y) (frames_of ys) rest' in
+    let first = frame_first x y (frames_of xs ++ rest) (frames_of ys ++ rest') split in
     ap₂ (λ (s : List ℕ) (ss : List (List ℕ)). s ∷ ss) first.0
     (none_more xs ys rest rest' first.1 (λ m. f (more_after first.0 m)) (λ m. g (more_after (sym first.0) m)))
 
@@ -209,7 +218,9 @@ module _ {input text₀ report₀ : List ℕ} where
 
 pub marked_determined : MarkedDetermined
 marked_determined input text₀ report₀ used filled text report used' filled' text' report' m m' =
-    let same : m.schedules ≡ m'.schedules = none_more m.schedules m'.schedules (drop used input) (drop used' input) (sym (input_split m) ∙ input_split m') (no_further m m') (no_further m' m) in (
+    let split = sym (input_split m) ∙ input_split m' in
+    let same : m.schedules ≡ m'.schedules =
+    none_more m.schedules m'.schedules (drop used input) (drop used' input) split (no_further m m') (no_further m' m) in (
       used_length m ∙ ap (λ ss. length (frames_of ss)) same ∙ sym (used_length m'),
       m.lined.ends ∙ ap (λ ss. 0 + length (lines_of ss)) same ∙ sym m'.lined.ends,
       m.lined.leaves ∙ ap (λ ss. sets text₀ 0 (lines_of ss)) same ∙ sym m'.lined.leaves,
@@ -238,7 +249,9 @@ module _ (input : List ℕ) (at : ℕ) {text₀ report₀ : List ℕ} {used fill
   part_within h = omega (arith, left.taken, length-drop at input)
 
   pub part_length_lem : length (take (at + used - at) (drop at input)) ≡ used
-  part_length_lem = ap (λ n. length (take n (drop at input))) (let z : at + used - at ≡ used = omega arith in z) ∙ length-take-le used (drop at input) left.taken
+  part_length_lem =
+      ap (λ n. length (take n (drop at input))) (let z : at + used - at ≡ used = omega arith in z)
+      ∙ length-take-le used (drop at input) left.taken
 
   pub part_lines : LinesOf (take (at + used - at) (drop at input)) (take filled text)
   part_lines = record {
@@ -268,5 +281,8 @@ module _ (input : List ℕ) (at : ℕ) {text₀ report₀ : List ℕ} {used fill
     framed_all nothing room = record {
       schedules = g.schedules;
       split = sym (take-append-drop at input) ∙ ap (λ l. l ++ drop at input) g.framed;
-      none = ⊎_elim (λ n. subst NoFrame (ap (λ u. drop u (drop at input)) nothing) n) (λ full. absurd (omega (arith, none_filled nothing, same_room))) left.stops;
+      none =
+          ⊎_elim (λ n. subst NoFrame (ap (λ u. drop u (drop at input)) nothing) n)
+          (λ full. absurd (omega (arith, none_filled nothing, same_room)))
+          left.stops;
     }

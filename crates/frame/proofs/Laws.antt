@@ -4,6 +4,8 @@ use mathlib.Core.List.{List, ◌++◌}
 use Prim.Native.Nat.{ℕ, ◌+◌, ◌^◌, ◌≤◌, ◌<◌}
 use native.Mathlib.Omega.{arith}
 use lib.ListN.{length, length-append}
+use Rattle.std.specs.Prelude.{Result, Ok, Err}
+use Rattle.number.specs.Refusal.{refusal_number}
 use Rattle.text.specs.Text.{ascii, hexadecimal, refusal_line}
 use Rattle.text.proofs.Laws.{hexadecimal_length, decimal_length, refusal_length}
 use Rattle.schedule.specs.Schedule.{Reading, Accepted, Refused, read_schedule}
@@ -21,7 +23,8 @@ use Rattle.form.proofs.Fits.{form_fits, form_most, has_fields}
 use Rattle.marker.specs.Report.{report_bytes, tail_size}
 use Rattle.marker.specs.Run.{reading_answer, reading_leaves, run_answers, run_leaves}
 use Rattle.marker.proofs.Left.{ran, answers, report_left}
-use Rattle.frame.specs.Types.{Step, Header, Written}
+use Rattle.frame.specs.Types.{Step, Header}
+use Rattle.frame.specs.Types as types
 use Rattle.frame.specs.Frame.{answer_line, WroteWithin, reading_line, line_of, longest_report, longest_line}
 
 steps_most : (s : List ℕ) (h : Header) (steps : List Step) → read_schedule s ≡ Accepted h steps → length steps + tail_size h ≤ longest_report
@@ -35,7 +38,8 @@ module _ (s report : List ℕ) (room : longest_report ≤ length report) where
   done_line (Accepted h steps) e =
       let fits : length steps + tail_size h ≤ length report = omega (arith, steps_most s h steps e) in
       let has = fresh_places h.n h.votes in
-      ap (λ (y : Written). answer_line y (reading_leaves fresh_of report (Accepted h steps))) (answers fresh_of report {h = h} {steps = steps} refl has fits)
+      ap (λ (y : Result ℕ types.Refused). answer_line y (reading_leaves fresh_of report (Accepted h steps)))
+      (answers fresh_of report {h = h} {steps = steps} refl has fits)
       ∙ ap (λ l. hexadecimal l ++ ascii "\n") (report_left fresh_of report {h = h} {steps = steps} refl has fits)
   done_line (Refused k place) e = refl
 
@@ -46,9 +50,9 @@ module _ (s report : List ℕ) (room : longest_report ≤ length report) where
 pub run_within : (s report left : List ℕ) → length left ≡ length report → WroteWithin (run_answers (length report) s) left
 run_within s report left same = go (run_answers (length report) s) refl
   where
-    go : (x : Written) → run_answers (length report) s ≡ x → WroteWithin x left
-    go (Written.Done end) e = let x = ran report (read_schedule s) end e in omega (arith, x.length_written, x.room)
-    go (Written.Refused k place) e = tt
+    go : (x : Result ℕ types.Refused) → run_answers (length report) s ≡ x → WroteWithin x left
+    go (Ok end) e = let x = ran report (read_schedule s) end e in omega (arith, x.length_written, x.room)
+    go (Err r) e = tt
 
 pub refusal_most : (k at : ℕ) → k < 10 ^ 10 → at < 10 ^ 20 → length (refusal_line k at) ≤ longest_line
 refusal_most k at p q =
@@ -71,4 +75,4 @@ line_most s = go (read_schedule s) refl (read_says s)
           bytes_length (fresh_of h) steps,
           tail_size_lem (form_of h.kind) (tail_of (after (fresh_of h) steps)) (form_fits h.kind).0 (has_fields (after (fresh_of h) steps) has),
         )
-    go (Refused k place) e y = refusal_most k place (omega (arith, y.number)) (omega (arith, y.near))
+    go (Refused k place) e y = refusal_most (refusal_number k) place (omega (arith, y.number)) (omega (arith, y.near))

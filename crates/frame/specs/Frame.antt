@@ -1,5 +1,6 @@
 -- What program `replay` reads and writes: schedules in frames, and a line for each. Assumes nothing.
-use Rattle.std.specs.Prelude.{◌≡◌, ◌⊎◌, List, [], ◌∷◌, ◌++◌, ℕ, ◌+◌, ◌*◌, ◌/◌, ◌%◌, ◌≤◌, ◌<◌, length, take, drop}
+use Rattle.std.specs.Prelude.{◌≡◌, ◌⊎◌, List, [], ◌∷◌, ◌++◌, ℕ, ◌+◌, ◌*◌, ◌/◌, ◌%◌, ◌≤◌, ◌<◌, length, take, drop, Option, Some, None, Result, Ok, Err}
+use Rattle.number.specs.Refusal.{refusal_number}
 use Rattle.text.specs.Text.{ascii, hexadecimal, refusal_line}
 use Rattle.text.specs.Put.{Put, each}
 use Rattle.schedule.specs.Record.{longest}
@@ -8,27 +9,27 @@ use Rattle.form.specs.Form.{wide, tail_length}
 use Rattle.passes.specs.Pass.{fresh_of}
 use Rattle.marker.specs.Report.{report_bytes}
 use Rattle.marker.specs.Run.{run_leaves}
-use Rattle.frame.specs.Types.{Written, Frame}
+use Rattle.frame.specs.Types as types
 
 -- a schedule in its frame: two bytes length, low first, then its bytes
 abbrev pub frame_of : List ℕ → List ℕ
 frame_of schedule = length schedule % 256 ∷ length schedule / 256 ∷ schedule
 
 -- one line: what an entry wrote into a lent buffer, in lower-case hexadecimal, or `refused K at B`
-abbrev pub answer_line : Written → List ℕ → List ℕ
-answer_line (Written.Done end) left = hexadecimal (take end left) ++ ascii "\n"
-answer_line (Written.Refused k place) left = refusal_line k place
+abbrev pub answer_line : Result ℕ types.Refused → List ℕ → List ℕ
+answer_line (Ok end) left = hexadecimal (take end left) ++ ascii "\n"
+answer_line (Err r) left = refusal_line (refusal_number r.refusal) r.value
 
 -- what it wrote is in the buffer
-abbrev pub WroteWithin : Written → List ℕ → Type 0
-WroteWithin (Written.Done end) left = end ≤ length left
-WroteWithin (Written.Refused k place) left = Unit {0}
+abbrev pub WroteWithin : Result ℕ types.Refused → List ℕ → Type 0
+WroteWithin (Ok end) left = end ≤ length left
+WroteWithin (Err r) left = Unit {0}
 
 -- of a run: its report
 
 abbrev pub reading_line : Reading → List ℕ
 reading_line (Accepted h steps) = hexadecimal (report_bytes h.kind (fresh_of h) steps) ++ ascii "\n"
-reading_line (Refused k place) = refusal_line k place
+reading_line (Refused k place) = refusal_line (refusal_number k) place
 
 abbrev pub line_of : List ℕ → List ℕ
 line_of schedule = reading_line (read_schedule schedule)
@@ -56,9 +57,9 @@ pub record NoFrame (bytes : List ℕ) : Type 0 where
   pub none : (schedule rest : List ℕ) → bytes ≡ frame_of schedule ++ rest → ⊥
   pub few : length bytes < longest_frame
 
-abbrev pub BeginsWith : Frame → List ℕ → Type 0
-BeginsWith (Frame.Whole size) bytes = WholeFrame bytes size
-BeginsWith Frame.Incomplete bytes = NoFrame bytes
+abbrev pub BeginsWith : Option ℕ → List ℕ → Type 0
+BeginsWith (Some size) bytes = WholeFrame bytes size
+BeginsWith None bytes = NoFrame bytes
 
 -- Many schedules: their frames, and their lines, one after the other
 

@@ -1,16 +1,17 @@
 // Many schedules, one after the other: each comes in a frame, and its report goes out as a line.
 #![tactic(auto)]
 
-ghost use Rattle.std.specs.Prelude.{◌≡◌, ◌+◌, ◌≤◌, ◌<◌, length};
+ghost use Rattle.std.specs.Prelude.{◌≡◌, ◌+◌, ◌≤◌, length};
 ghost use Rattle.text.specs.Put.{Put};
 ghost use Rattle.marker.specs.Run.{run_leaves};
 ghost use Rattle.frame.specs.Frame.{BeginsWith, MarkedUpTo, answer_line, WroteWithin, line_of, longest_report, longest_line};
 
 use form::TAIL;
 use marker::run;
+use number::Refused;
+use number::low::number;
 use schedule::LONGEST;
 use text::{put, put_hexadecimal, put_refusal};
-use writer::Written;
 
 // No report has more bytes than this, no line and no frame: two bytes tell its length.
 pub const REPORT: usize = LONGEST + TAIL;
@@ -19,52 +20,45 @@ pub const LINE: usize = 2 * REPORT + 1;
 
 pub const FRAME: usize = 2 + 65535;
 
-// The length of the schedule in a frame; or not all of the frame is there.
-#[derive(Clone, Copy)]
-pub enum Frame {
-    Whole(usize),
-    Incomplete,
-}
-
 // How many bytes of the input are marked, and how many of the text are filled.
-#[derive(Clone, Copy)]
+#[derive(Clone, Copy, Debug, PartialEq, Eq)]
 pub struct Marked {
     pub used: usize,
     pub filled: usize,
 }
 
-fn wide(b: u8) -> usize
-    ensures { (result ≡ b) × (result < 256) }
-{
-    b as usize
-}
-
-// The frame that these bytes begin with.
-pub fn first_frame(bytes: &[u8]) -> Frame
+// The length of the schedule in the frame that these bytes begin with. None where not all of the frame is there.
+#[tactic(auto, using(crate::proofs::Frames::whole))]
+pub fn first_frame(bytes: &[u8]) -> Option<usize>
     ensures { BeginsWith result bytes.now }
 {
     if bytes.len() < 2 {
-        return Frame::Incomplete;
+        return None;
     }
-    let length = wide(bytes[0]) + 256 * wide(bytes[1]);
+    let length = number(bytes, 0, 2) as usize;
     if bytes.len() < 2 + length {
-        Frame::Incomplete
+        None
     } else {
-        Frame::Whole(length)
+        Some(length)
     }
 }
 
 // The line of an entry's answer, at a place of the text: what it wrote into the buffer, or its refusal.
-pub fn put_answer(answer: Written, left: &[u8], text: &mut [u8], place: usize) -> usize
+pub fn put_answer(
+    answer: Result<usize, Refused>,
+    left: &[u8],
+    text: &mut [u8],
+    place: usize,
+) -> usize
     requires { WroteWithin answer left.now × (place + length (answer_line answer left.now) ≤ length text.old) }
     ensures { Put text.old place (answer_line answer left.now) result text.new }
 {
     match answer {
-        Written::Done(length) => {
+        Ok(length) => {
             let end = put_hexadecimal(text, place, &left[..length]);
             put(text, end, b"\n")
         }
-        Written::Refused(k, at) => put_refusal(text, place, k, at),
+        Err(refused) => put_refusal(text, place, refused),
     }
 }
 
@@ -74,8 +68,8 @@ pub fn put_line(schedule: &[u8], report: &mut [u8], text: &mut [u8], place: usiz
     ensures { Put text.old place (line_of schedule.now) result text.new × (result ≤ length text.old)
         × (report.new ≡ run_leaves report.old schedule.now) }
 {
-    let ran = run(schedule, report);
-    put_answer(ran, report, text, place)
+    let answer = run(schedule, report);
+    put_answer(answer, report, text, place)
 }
 
 // Marks frames from the front, as long as the next one is whole and its line, however long, has room.
@@ -84,22 +78,16 @@ pub fn mark_frames(input: &[u8], report: &mut [u8], text: &mut [u8]) -> Marked
     ensures { MarkedUpTo input.now text.old report.old result.used result.filled
         text.new report.new }
 {
-    let mut used: usize = 0;
-    let mut filled: usize = 0;
+    let mut used = 0;
+    let mut filled = 0;
     while LINE <= text.len() - filled {
-        let Frame::Whole(size) = first_frame(&input[used..]) else {
-            return Marked {
-                used: used,
-                filled: filled,
-            };
+        let Some(size) = first_frame(&input[used..]) else {
+            return Marked { used, filled };
         };
         let start = used + 2;
         let end = start + size;
         filled = put_line(&input[start..end], report, text, filled);
         used = end;
     }
-    Marked {
-        used: used,
-        filled: filled,
-    }
+    Marked { used, filled }
 }

@@ -4,9 +4,10 @@ use mathlib.Core.Bool.{true}
 use Prim.Native.Nat.{ℕ, suc, ◌-◌, ◌≤◌, ◌<◌}
 use native.Mathlib.Omega.{arith}
 use borrow.Author.Tests.{le-leb}
+use Rattle.std.specs.Prelude.{Option, Some, None}
 use Rattle.number.proofs.Laws.{and_true, are_numbers_lem, are_numbers3_lem}
 use Rattle.mask.specs.Mask.{full}
-use Rattle.store.specs.Log.{log, perform, places}
+use Rattle.store.specs.Log.{perform, places}
 use Rattle.participant.specs.Participant
 use Rattle.participant.proofs.Numbers.{participant_numbers}
 use Rattle.rules.specs.State.{participant_of, log_of, fresh}
@@ -17,7 +18,7 @@ use Rattle.rules.proofs.Reached.{reached_in_range}
 use Rattle.event.specs.Event.{event_number, detail_number, answer_number, event_of, event_in_range}
 use Rattle.event.proofs.Numbers.{event_numbers}
 use Rattle.kind.specs.Kind.{room}
-use Rattle.host.specs.Types.{Kind, LogPair, Call, Logged, Performed, Participant, Transition, Release, Step, Event}
+use Rattle.host.specs.Types.{Kind, LogPair, Call, Logged, Participant, Transition, Release, Step, Event}
 use Rattle.host.specs.Host.{answers, answered, on_event, host_in_range, host_transition, returned, left}
 use Rattle.host.specs.Agrees.{leads, HostAgrees, HostAgreesReached}
 
@@ -41,31 +42,30 @@ module _ (n i : ℕ) (p : Participant) (e : Event) where
   numbers_lead = ap₂ (λ (k : ℕ) (x : Participant). on_event (full n) k x (event_of (event_number e) (detail_number e) (answer_number e))) (let z : suc i - 1 ≡ i = omega arith in z) (participant_numbers.decoded p) ∙ ap (on_event (full n) i p) (event_numbers.decoded e)
 
 -- a call that the store performs is pending
-abbrev Pending : Call → Performed → Type 0
-Pending c Performed.Refused = Unit {0}
-Pending c (Performed.Done x) = (t : Transition) → answers c t ≡ t
+abbrev Pending : Option Call → Option Logged → Type 0
+Pending c None = Unit {0}
+Pending c (Some x) = (t : Transition Participant) → answers c t ≡ t
 
-performs : (c : Call) (l : LogPair) → Pending c (perform c l)
-performs Call.None l = tt
-performs (Call.LogOnce r) l = λ t. refl
-performs (Call.Log r) l = logs (log r l)
+performs : (c : Option Call) (l : LogPair) → Pending c (perform c l)
+performs None l = tt
+performs (Some c) l = done (perform (Some c) l)
   where
-    logs : (x : Performed) → Pending (Call.Log r) x
-    logs Performed.Refused = tt
-    logs (Performed.Done y) = λ t. refl
+    done : (x : Option Logged) → Pending (Some c) x
+    done None = tt
+    done (Some y) = λ t. refl
 
-call_agrees : (r : Release) (i j : ℕ) (x : Logged) → perform (Participant.pending i (participant_of r i) j) (log_of r j) ≡ Performed.Done x
+call_agrees : (r : Release) (i j : ℕ) (x : Logged) → perform (Participant.pending i (participant_of r i) j) (log_of r j) ≡ Some x
     → step r (Step.Call (suc i) (suc j)) ≡ participant_answered true i j x (leads r i (Event.Answer (suc j) x.answer)) r
 unfolding participant_calls
 call_agrees r i j x q =
     rw q
-    (ap (λ (t : Transition). participant_answered true i j x t r)
+    (ap (λ (t : Transition Participant). participant_answered true i j x t r)
     (sym (pending (Participant.on_answer (full r.n) i (participant_of r i) j x.answer)) ∙ ap (λ (k : ℕ). answered (full r.n) i (participant_of r i) k x.answer) place))
   where
     place : j ≡ suc j - 1
     place = omega arith
 
-    pending : (t : Transition) → answers (Participant.pending i (participant_of r i) j) t ≡ t
+    pending : (t : Transition Participant) → answers (Participant.pending i (participant_of r i) j) t ≡ t
     pending = rw q at (performs (Participant.pending i (participant_of r i) j) (log_of r j))
 
 pub host_agrees : HostAgrees

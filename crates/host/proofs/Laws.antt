@@ -1,28 +1,22 @@
 -- What numbers in range give the host's step: places that a mask has, and a next state whose numbers fit their bytes. Assumes nothing.
-use mathlib.Core.Path.{◌≡◌, refl}
-use mathlib.Core.Bool.{true}
+use mathlib.Core.Path.{◌≡◌, refl, sym, ap}
+use mathlib.Core.Bool.{Bool, true, false}
 use Prim.Native.Nat.{ℕ, ◌-◌, ◌^◌, ◌≤◌, ◌<◌}
 use native.Mathlib.Omega.{arith}
 use lib.Pow.{pow_mono}
 use borrow.Author.Tests.{le-leb}
+use Rattle.std.specs.Prelude.{cond, Option, Some, None}
 use Rattle.number.proofs.Laws.{and_left, and_right, and_true}
 use Rattle.mask.specs.Mask.{full}
 use Rattle.kind.specs.Kind.{room}
-use Rattle.message.specs.Message.{sent_number}
-use Rattle.message.proofs.Numbers.{type_most}
 use Rattle.participant.specs.Participant
 use Rattle.rules.proofs.Cases.{crash_cases, restart_cases}
 use Rattle.rules.proofs.Ranges.{ParticipantInRange, participant_held, Guard, Guarded, pending_guarded, ToInRange, request_range, decision_range, timeout_range, answer_range}
 use Rattle.kind.specs.Step.{number_in_range}
 use Rattle.kind.proofs.Numbers.{between}
 use Rattle.event.specs.Event.{event_of, is_event, is_written, event_in_range}
-use Rattle.host.specs.Types.{Kind, Call, Sent, Participant, Transition, To, Event}
-use Rattle.host.specs.Host.{answers, on_event, host_in_range, host_transition, heard_width}
-
--- a message's number fits a byte
-pub sent_small : (s : Sent) → sent_number s < 256
-sent_small Sent.Nothing = omega arith
-sent_small (Sent.Sends m) = omega (arith, type_most m)
+use Rattle.host.specs.Types.{Kind, Call, Message, Participant, Transition, Event}
+use Rattle.host.specs.Host.{answers, on_event, among_in_range, among, host_in_range, host_transition, heard_width}
 
 -- an event among n is one among more
 event_more : (n m : ℕ) → n ≤ m → (e : Event) → event_in_range n e ≡ true → event_in_range m e ≡ true
@@ -63,10 +57,10 @@ given n own s h e d r q =
 
 -- an event leads to a heard mask in range
 
-answers_range : (n i : ℕ) (p : Participant) (j : ℕ) (t : Transition) (c : Call) → Guarded i p j c → (Guard i p j → ToInRange n i t) → ToInRange n i (answers c t)
-answers_range n i p j t Call.None g f = tt
-answers_range n i p j t (Call.LogOnce r) g f = f g
-answers_range n i p j t (Call.Log r) g f = f g
+answers_range : (n i : ℕ) (p : Participant) (j : ℕ) (t : Transition Participant) (c : Option Call) → Guarded i p j c → (Guard i p j → ToInRange n i t) → ToInRange n i (answers c t)
+answers_range n i p j t None g f = tt
+answers_range n i p j t (Some (Call.LogOnce r)) g f = f g
+answers_range n i p j t (Some (Call.Log r)) g f = f g
 
 event_range : (n i : ℕ) → i < n → (p : Participant) → ParticipantInRange n i p → (e : Event) → event_in_range n e ≡ true → ToInRange n i (on_event (full n) i p e)
 event_range n i l p k (Event.Request vote) q = request_range n i l vote p k
@@ -92,9 +86,33 @@ heard_below n i Participant.DoneAbort l k = omega arith
 heard_below n i Participant.Down l k = omega arith
 
 -- so the next one has room in its four bytes
-pub heard_fits : (n own s h e d r : ℕ) (p : Participant) (m : Sent) → host_in_range n own s h e d r ≡ true → host_transition n own s h e d r ≡ To p m
+pub heard_fits : (n own s h e d r : ℕ) (p : Participant) (m : Option Message) → host_in_range n own s h e d r ≡ true → host_transition n own s h e d r ≡ Some (p, m)
     → Participant.heard_of p < 256 ^ heard_width
 heard_fits n own s h e d r p m q t =
     let g = given n own s h e d r q in
     let x = event_range n (own - 1) (omega (arith, g.first, g.last)) (Participant.of_numbers s h) (participant_held n (own - 1) (Participant.of_numbers s h) g.participant) (event_of e d r) g.event in
     heard_below n (own - 1) p g.size (rw t at x)
+
+-- what is read is there only where the test holds
+
+pub there : {T : Type 0} (b : Bool) (x y : T) → cond b (Some x) None ≡ Some y → (b ≡ true) × (x ≡ y)
+there true x y e = (refl, cc)
+there false x y e = let z : ◌≡◌ {A = ℕ} 0 1 = cc in absurd (omega arith)
+
+pub not_there : {T : Type 0} (b : Bool) (x : T) → cond b (Some x) None ≡ None → b ≡ false
+not_there false x e = refl
+not_there true x e = let z : ◌≡◌ {A = ℕ} 0 1 = cc in absurd (omega arith)
+
+pub record WasRead (n own s h e d r : ℕ) (p : Participant) (x : Event) : Type 0 where
+  pub among : among_in_range n own s h e d r ≡ true
+  pub participant : p ≡ Participant.of_numbers s h
+  pub event : x ≡ event_of e d r
+
+pub was_read : (n own s h e d r : ℕ) (p : Participant) (x : Event) → among n own s h e d r ≡ Some (p, x) → WasRead n own s h e d r p x
+was_read n own s h e d r p x f =
+    let t = there {T = Participant × Event} (among_in_range n own s h e d r) (Participant.of_numbers s h, event_of e d r) (p, x) f in
+    record {
+      among = t.0;
+      participant = sym (ap (λ (y : Participant × Event). y.0) t.1);
+      event = sym (ap (λ (y : Participant × Event). y.1) t.1);
+    }

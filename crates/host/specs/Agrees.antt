@@ -1,6 +1,6 @@
 -- The host's participant is the participant of the whole release: on its numbers the entry hands over what the event leads it to, and the
 -- release's step applies just that. Proved in proofs/Agrees.antt. Assumes nothing.
-use Rattle.std.specs.Prelude.{◌≡◌, true, List, ℕ, suc, ◌≤◌, ◌<◌}
+use Rattle.std.specs.Prelude.{◌≡◌, true, List, ℕ, suc, ◌≤◌, ◌<◌, Some}
 use Rattle.kind.specs.Kind.{room}
 use Rattle.kind.specs.Step.{AllInRange}
 use Rattle.mask.specs.Mask.{has, full, within}
@@ -10,11 +10,11 @@ use Rattle.rules.specs.State.{participant_of, log_of, in_flight, fresh}
 use Rattle.rules.specs.Step.{take_out, participant_goes, participant_answered, step}
 use Rattle.rules.specs.Run.{after}
 use Rattle.event.specs.Event.{event_number, detail_number, answer_number, event_in_range}
-use Rattle.host.specs.Types.{Kind, Logged, Performed, Message, Decision, Transition, Release, Step, Event}
+use Rattle.host.specs.Types.{Kind, Logged, Message, Decision, Participant, Transition, Release, Step, Event}
 use Rattle.host.specs.Host.{on_event, returned, left, host_returns, host_leaves}
 
 -- what an event leads participant i to
-abbrev pub leads : Release → ℕ → Event → Transition
+abbrev pub leads : Release → ℕ → Event → Transition Participant
 leads r i e = on_event (full r.n) i (participant_of r i) e
 
 pub record Agrees (r : Release) (i : ℕ) : Type 0 where
@@ -42,7 +42,7 @@ pub record Agrees (r : Release) (i : ℕ) : Type 0 where
   pub crash : step r (Step.Crash (suc i)) ≡ participant_goes i (leads r i Event.Crash) r
   pub restart : step r (Step.Restart (suc i)) ≡ participant_goes i (leads r i Event.Restart) r
   -- a call that the store performs, with its answer heard
-  pub answer : (j : ℕ) (x : Logged) → perform (Participant.pending i (participant_of r i) j) (log_of r j) ≡ Performed.Done x
+  pub answer : (j : ℕ) (x : Logged) → perform (Participant.pending i (participant_of r i) j) (log_of r j) ≡ Some x
       → step r (Step.Call (suc i) (suc j)) ≡ participant_answered true i j x (leads r i (Event.Answer (suc j) x.answer)) r
 
 -- for every participant in range

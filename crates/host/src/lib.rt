@@ -5,34 +5,26 @@
 ghost use Rattle.std.specs.Prelude.{◌≡◌, true, ◌≤◌, ◌<◌, length};
 ghost use Rattle.mask.specs.Mask.{full};
 ghost use Rattle.event.specs.Event.{event_in_range};
-ghost use Rattle.host.specs.Host.{answers, answered, on_event, among_in_range, returned, left, host_returns, host_leaves};
+ghost use Rattle.host.specs.Host.{answered, on_event, among, number_of, returned, left, host_returns, host_leaves};
 
 use event::Event;
 use kind::{Kind, between};
-use number::{NOT_DUE, OUT_OF_RANGE, TOO_SHORT, low};
-use participant::{Participant, Transition, to};
-use store::{Call, LogRecord};
+use message::{Transition, sent_number, to};
+use number::{Refusal, low};
+use participant::Participant;
+use store::LogRecord;
 
 // An answer counts only where its call is pending.
-fn answers(c: Call, t: Transition) -> Transition
-    ensures { result ≡ answers c t }
-{
-    match c {
-        Call::None => Transition::NotDue,
-        Call::LogOnce(_) => t,
-        Call::Log(_) => t,
-    }
-}
-
-fn answered(all: u32, place: u32, p: Participant, j: u32, r: LogRecord) -> Transition
+fn answered(all: u32, place: u32, p: Participant, j: u32, r: LogRecord) -> Transition<Participant>
     requires { (place < 32) × (j < 32) }
     ensures { result ≡ answered all place p j r }
 {
-    answers(p.pending(place, j), p.answer(all, place, j, r))
+    p.pending(place, j)?;
+    p.answer(all, place, j, r)
 }
 
 // What an event leads a participant to.
-fn on_event(all: u32, place: u32, p: Participant, e: Event) -> Transition
+fn on_event(all: u32, place: u32, p: Participant, e: Event) -> Transition<Participant>
     requires { (place < 32) × (event_in_range 32 e ≡ true) }
     ensures { result ≡ on_event all place p e }
 {
@@ -51,26 +43,22 @@ const HEARD_WIDTH: usize = 4;
 
 const STEP_BYTES: usize = 6;
 
-// The number to return, and the six bytes where that is 0.
-fn hand_over(t: Transition, out: &mut [u8]) -> u32
-    ensures { (result ≡ returned (length out.old) t) × (out.new ≡ left out.old t) }
+// The six bytes of what a participant is led to.
+fn hand_over(t: Transition<Participant>, out: &mut [u8]) -> Result<(), Refusal>
+    ensures { (number_of result ≡ returned (length out.old) t) × (out.new ≡ left out.old t) }
 {
-    match t {
-        Transition::NotDue => NOT_DUE,
-        Transition::To(p, s) => {
-            if out.len() < STEP_BYTES {
-                return TOO_SHORT;
-            }
-            out[0] = p.number() as u8;
-            let end = low::put(out, 1, HEARD_WIDTH, p.heard());
-            out[end] = s.number() as u8;
-            0
-        }
+    let (p, sent) = t.ok_or(Refusal::NotDue)?;
+    if out.len() < STEP_BYTES {
+        return Err(Refusal::TooShort);
     }
+    out[0] = p.number() as u8;
+    let end = low::put(out, 1, HEARD_WIDTH, p.heard());
+    out[end] = sent_number(sent) as u8;
+    Ok(())
 }
 
-// Whether the other numbers are in range, among n participants.
-fn in_range(
+// The participant and the event with these numbers, if they are in range.
+fn read(
     n: u32,
     all: u32,
     own: u32,
@@ -79,19 +67,38 @@ fn in_range(
     event: u32,
     detail: u32,
     answer: u32,
-) -> bool
+) -> Option<(Participant, Event)>
     requires { (n ≤ 32) × (all ≡ full n) }
-    ensures { result ≡ among_in_range n own state heard event detail answer }
+    ensures { result ≡ among n own state heard event detail answer }
 {
-    if between(1, own, n) {
-        if Participant::numbers_in_range(all, own - 1, state, heard) {
-            Event::numbers_in_range(n, event, detail, answer)
-        } else {
-            false
-        }
-    } else {
-        false
+    if !between(1, own, n) || !Participant::numbers_in_range(all, own - 1, state, heard) {
+        return None;
     }
+    let e = Event::read(n, event, detail, answer)?;
+    Some((Participant::of(state, heard), e))
+}
+
+// The entry, with a refusal in place of its number.
+fn step(
+    n: u32,
+    own: u32,
+    state: u32,
+    heard: u32,
+    event: u32,
+    detail: u32,
+    answer: u32,
+    out: &mut [u8],
+) -> Result<(), Refusal>
+    ensures { (number_of result ≡ host_returns (length out.old) n own state heard event detail answer) × (out.new ≡ host_leaves out.old n own state heard event detail answer) }
+{
+    if !between(1, n, Kind::WIDE) {
+        return Err(Refusal::OutOfRange);
+    }
+    let all = mask::full(n);
+    let Some((p, e)) = read(n, all, own, state, heard, event, detail, answer) else {
+        return Err(Refusal::OutOfRange);
+    };
+    hand_over(on_event(all, own - 1, p, e), out)
 }
 
 // What include/cornus.h declares, and host_c exports to C. `answer` is the record that a log answers with.
@@ -107,16 +114,8 @@ pub fn cornus_participant_step(
 ) -> u32
     ensures { (result ≡ host_returns (length out.old) n own state heard event detail answer) × (out.new ≡ host_leaves out.old n own state heard event detail answer) }
 {
-    if between(1, n, Kind::WIDE) {
-        let all = mask::full(n);
-        if in_range(n, all, own, state, heard, event, detail, answer) {
-            let p = Participant::of(state, heard);
-            let e = Event::of(event, detail, answer);
-            hand_over(on_event(all, own - 1, p, e), out)
-        } else {
-            OUT_OF_RANGE
-        }
-    } else {
-        OUT_OF_RANGE
+    match step(n, own, state, heard, event, detail, answer, out) {
+        Ok(()) => 0,
+        Err(refusal) => refusal.number(),
     }
 }

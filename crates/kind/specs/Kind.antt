@@ -1,7 +1,7 @@
 -- The kinds of records: the number of each, which is the first byte of a record, and the two numbers of its body. Assumes nothing.
-use Rattle.std.specs.Prelude.{Bool, true, false, [], ◌∷◌, ℕ, ◌+◌}
+use Rattle.std.specs.Prelude.{Bool, true, false, cond, [], ◌∷◌, ℕ, ◌+◌, Result, Ok, Err}
 use Rattle.number.specs.Numbering.{numbered, is_number}
-use Rattle.kind.specs.Types.{Kind}
+use Rattle.kind.specs.Types.{Kind, Refusal}
 
 -- document 01's table of kinds, 01 to 0A; request 2026-03: header 0B
 abbrev pub kind_number : Kind → ℕ
@@ -24,6 +24,9 @@ kind_of k =
 
 abbrev pub is_kind : ℕ → Bool
 is_kind k = is_number kind_number kind_of k
+
+abbrev pub kind_with : ℕ → Result Kind Refusal
+kind_with k = cond (is_kind k) (Ok (kind_of k)) (Err Refusal.UnknownKind)
 
 -- A body is a number and a second one: n and vote mask; nothing; type and participant; party and log; party. How many bytes each of them has:
 -- a number has one, the vote mask of header 0B four

@@ -2,3 +2,4 @@
 pub use Rattle.message.specs.declared.Message.{Message}
 pub use Rattle.kind.specs.declared.Kind.{Kind}
 pub use Rattle.kind.specs.declared.Step.{Step}
+pub use Rattle.number.specs.declared.Refusal.{Refusal}

@@ -2,29 +2,46 @@
 #![tactic(auto)]
 
 ghost use Rattle.std.specs.Prelude.{◌≡◌};
-ghost use Rattle.kind.specs.Kind.{kind_number, kind_of, first_width, second_width, body_length, is_header, room};
+ghost use Rattle.kind.specs.Kind.{kind_number, kind_of, kind_with, first_width, second_width, body_length, is_header, room};
 ghost use Rattle.kind.specs.Step.{of_kind, number_in_range, names_message, names_party, names_place, least_first, greatest_first, least_second, greatest_second, first_in_range, second_in_range, numbers_in_range};
 
 use message::Message;
+use number::Refusal;
 
-// The kind of a record.
-#[derive(Clone, Copy)]
+// The kind of a record, with its number.
+#[derive(Clone, Copy, Debug, PartialEq, Eq)]
 pub enum Kind {
-    Header,
-    Start,
-    Deliver,
-    Copy,
-    Lose,
-    Call,
-    CallLost,
-    Timeout,
-    Crash,
-    Restart,
-    WideHeader,
+    Header = 1,
+    Start = 2,
+    Deliver = 3,
+    Copy = 4,
+    Lose = 5,
+    Call = 6,
+    CallLost = 7,
+    Timeout = 8,
+    Crash = 9,
+    Restart = 10,
+    WideHeader = 11,
+}
+
+// The number of no kind is refused.
+impl TryFrom<u32> for Kind {
+    type Error = Refusal;
+
+    ghost try_from_gives = { λ k r. r ≡ kind_with k };
+
+    fn try_from(k: u32) -> Result<Kind, Refusal> {
+        let kind = Kind::of(k);
+        if kind.number() == k {
+            Ok(kind)
+        } else {
+            Err(Refusal::UnknownKind)
+        }
+    }
 }
 
 // A step, by its kind. A message goes by its type and participant, a call by its party and log; participants, parties and logs are numbers.
-#[derive(Clone, Copy)]
+#[derive(Clone, Copy, Debug, PartialEq, Eq)]
 pub enum Step {
     Start,
     Deliver(Message, u32),
@@ -52,23 +69,10 @@ impl Kind {
 
     pub const WIDE: u32 = 32;
 
-    // Its number.
     pub fn number(self) -> u32
         ensures { result ≡ kind_number self }
     {
-        match self {
-            Kind::Header => 1,
-            Kind::Start => 2,
-            Kind::Deliver => 3,
-            Kind::Copy => 4,
-            Kind::Lose => 5,
-            Kind::Call => 6,
-            Kind::CallLost => 7,
-            Kind::Timeout => 8,
-            Kind::Crash => 9,
-            Kind::Restart => 10,
-            Kind::WideHeader => 11,
-        }
+        self as u32
     }
 
     // The kind with number k; where there is none, a header.
@@ -95,17 +99,8 @@ impl Kind {
         ensures { result ≡ first_width self }
     {
         match self {
-            Kind::Header => Kind::NUMBER,
             Kind::Start => Kind::NONE,
-            Kind::Deliver => Kind::NUMBER,
-            Kind::Copy => Kind::NUMBER,
-            Kind::Lose => Kind::NUMBER,
-            Kind::Call => Kind::NUMBER,
-            Kind::CallLost => Kind::NUMBER,
-            Kind::Timeout => Kind::NUMBER,
-            Kind::Crash => Kind::NUMBER,
-            Kind::Restart => Kind::NUMBER,
-            Kind::WideHeader => Kind::NUMBER,
+            _ => Kind::NUMBER,
         }
     }
 
@@ -113,17 +108,9 @@ impl Kind {
         ensures { result ≡ second_width self }
     {
         match self {
-            Kind::Header => Kind::NUMBER,
-            Kind::Start => Kind::NONE,
-            Kind::Deliver => Kind::NUMBER,
-            Kind::Copy => Kind::NUMBER,
-            Kind::Lose => Kind::NUMBER,
-            Kind::Call => Kind::NUMBER,
-            Kind::CallLost => Kind::NUMBER,
-            Kind::Timeout => Kind::NONE,
-            Kind::Crash => Kind::NONE,
-            Kind::Restart => Kind::NONE,
+            Kind::Start | Kind::Timeout | Kind::Crash | Kind::Restart => Kind::NONE,
             Kind::WideHeader => Kind::MASK,
+            _ => Kind::NUMBER,
         }
     }
 
@@ -137,19 +124,7 @@ impl Kind {
     pub fn is_header(self) -> bool
         ensures { result ≡ is_header self }
     {
-        match self {
-            Kind::Header => true,
-            Kind::Start => false,
-            Kind::Deliver => false,
-            Kind::Copy => false,
-            Kind::Lose => false,
-            Kind::Call => false,
-            Kind::CallLost => false,
-            Kind::Timeout => false,
-            Kind::Crash => false,
-            Kind::Restart => false,
-            Kind::WideHeader => true,
-        }
+        matches!(self, Kind::Header | Kind::WideHeader)
     }
 
     // How many participants a header of this kind has room for. A step's kind has none.
@@ -158,16 +133,8 @@ impl Kind {
     {
         match self {
             Kind::Header => Kind::NARROW,
-            Kind::Start => 0,
-            Kind::Deliver => 0,
-            Kind::Copy => 0,
-            Kind::Lose => 0,
-            Kind::Call => 0,
-            Kind::CallLost => 0,
-            Kind::Timeout => 0,
-            Kind::Crash => 0,
-            Kind::Restart => 0,
             Kind::WideHeader => Kind::WIDE,
+            _ => 0,
         }
     }
 }
@@ -176,7 +143,7 @@ impl Kind {
 pub fn between(low: u32, k: u32, high: u32) -> bool
     ensures { result ≡ number_in_range low k high }
 {
-    if low <= k { k <= high } else { false }
+    low <= k && k <= high
 }
 
 impl Kind {
@@ -237,11 +204,7 @@ impl Kind {
     fn first_in_range(self, n: u32, a: u32) -> bool
         ensures { result ≡ first_in_range n self a }
     {
-        if self.is_header() {
-            false
-        } else {
-            between(self.least_first(), a, self.greatest_first(n))
-        }
+        !self.is_header() && between(self.least_first(), a, self.greatest_first(n))
     }
 
     // And this second number.
@@ -255,11 +218,7 @@ impl Kind {
     pub fn numbers_in_range(self, n: u32, a: u32, b: u32) -> bool
         ensures { result ≡ numbers_in_range n (kind_number self) a b }
     {
-        if self.first_in_range(n, a) {
-            self.second_in_range(n, b)
-        } else {
-            false
-        }
+        self.first_in_range(n, a) && self.second_in_range(n, b)
     }
 }
 
@@ -269,8 +228,6 @@ impl Step {
         ensures { result ≡ of_kind k a b }
     {
         match k {
-            Kind::Header => Step::Start,
-            Kind::Start => Step::Start,
             Kind::Deliver => Step::Deliver(Message::of(a), b),
             Kind::Copy => Step::Copy(Message::of(a), b),
             Kind::Lose => Step::Lose(Message::of(a), b),
@@ -279,7 +236,7 @@ impl Step {
             Kind::Timeout => Step::Timeout(a),
             Kind::Crash => Step::Crash(a),
             Kind::Restart => Step::Restart(a),
-            Kind::WideHeader => Step::Start,
+            Kind::Header | Kind::Start | Kind::WideHeader => Step::Start,
         }
     }
 
@@ -287,11 +244,6 @@ impl Step {
     pub fn numbers_in_range(n: u32, k: u32, a: u32, b: u32) -> bool
         ensures { result ≡ numbers_in_range n k a b }
     {
-        let kind = Kind::of(k);
-        if kind.number() == k {
-            kind.numbers_in_range(n, a, b)
-        } else {
-            false
-        }
+        Kind::try_from(k).is_ok_and(|kind| kind.numbers_in_range(n, a, b))
     }
 }

@@ -55,12 +55,10 @@ fn put_participant(
     requires { place + participant_length width ≤ length report.old }
     ensures { Put report.old place (field_bytes width (party_fields state heard log)) result report.new }
 {
-    let first = log.first;
-    let last = log.last;
     let a = low::put(report, place, NUMBER_WIDTH, state);
     let b = low::put(report, a, width, heard);
-    let c = low::put(report, b, NUMBER_WIDTH, first.number());
-    low::put(report, c, NUMBER_WIDTH, last.number())
+    let c = low::put(report, b, NUMBER_WIDTH, log.first.number());
+    low::put(report, c, NUMBER_WIDTH, log.last.number())
 }
 
 // Each participant of the form.
@@ -74,17 +72,15 @@ fn put_participants(
     requires { FormFits form × (place + form.places * participant_length form.width ≤ length report.old) }
     ensures { Put report.old place (each (field_bytes form.width) (take form.places (tabulate places (fields_from fields.now store)))) result report.new }
 {
-    let many = form.places;
     let mut at = place;
-    for i in 0..many {
-        let log = store.logs[i];
+    for i in 0..form.places {
         at = put_participant(
             report,
             at,
             form.width,
             fields[STATES + i],
             fields[HEARD + i],
-            log,
+            store.logs[i],
         );
     }
     at
@@ -95,9 +91,8 @@ fn put_counts(report: &mut [u8], place: usize, fields: &[u32; FIELDS], form: For
     requires { FormFits form × (place + suc form.places * count_width ≤ length report.old) }
     ensures { Put report.old place (each (low_bytes count_width) (take (suc form.places) (tabulate (suc places) (calls_in fields.now)))) result report.new }
 {
-    let many = form.places + 1;
     let mut at = place;
-    for p in 0..many {
+    for p in 0..=form.places {
         at = low::put(report, at, COUNT_WIDTH, fields[COUNTS + p]);
     }
     at

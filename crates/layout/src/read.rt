@@ -19,8 +19,7 @@ fn messages(bytes: &[u8], form: Form) -> [u32; TYPES]
     let start = form.messages_at();
     let mut l = [0u32; TYPES];
     for k in 0..TYPES {
-        let m = low::number(bytes, start + k * width, width);
-        l[k] = m;
+        l[k] = low::number(bytes, start + k * width, width);
     }
     l
 }
@@ -50,12 +49,7 @@ fn participant(bytes: &[u8], form: Form, i: usize) -> ParticipantFields
             form.width,
         )
     } else {
-        ParticipantFields {
-            state: 0,
-            heard: 0,
-            first: 0,
-            last: 0,
-        }
+        ParticipantFields::ZERO
     }
 }
 
@@ -63,15 +57,9 @@ fn participants(bytes: &[u8], form: Form) -> [ParticipantFields; LOGS]
     requires { FormFits form × (tail_length form ≤ length bytes.now) }
     ensures { result ≡ tabulate places (participant_at form bytes.now) }
 {
-    let mut l = [ParticipantFields {
-        state: 0,
-        heard: 0,
-        first: 0,
-        last: 0,
-    }; LOGS];
+    let mut l = [ParticipantFields::ZERO; LOGS];
     for i in 0..LOGS {
-        let f = participant(bytes, form, i);
-        l[i] = f;
+        l[i] = participant(bytes, form, i);
     }
     l
 }
@@ -93,8 +81,7 @@ fn calls(bytes: &[u8], form: Form) -> [u16; PARTIES]
 {
     let mut l = [0u16; PARTIES];
     for p in 0..PARTIES {
-        let k = count(bytes, form, p);
-        l[p] = k;
+        l[p] = count(bytes, form, p);
     }
     l
 }
@@ -114,8 +101,8 @@ pub fn read_tail(bytes: &[u8], form: Form) -> Tail
         votes: low::number(bytes, NUMBER_WIDTH, width),
         state: low::number(bytes, state, NUMBER_WIDTH),
         heard: low::number(bytes, form.heard_at(), width),
-        messages: messages,
-        participants: participants,
-        calls: calls,
+        messages,
+        participants,
+        calls,
     }
 }

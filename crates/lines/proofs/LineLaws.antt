@@ -1,6 +1,6 @@
 -- What the loops over a report's bytes use of the lines: the first line and those after it, lengths, and lines put one after the other.
 -- Assumes nothing.
-use mathlib.Core.Path.{◌≡◌, refl, sym, ap, ◌∙◌}
+use mathlib.Core.Path.{◌≡◌, sym, ap, ◌∙◌}
 use mathlib.Core.Bool.{Bool, true, false}
 use mathlib.Core.List.{List, [], ◌∷◌, ◌++◌, append_assoc}
 use Prim.Native.Nat.{ℕ, suc, ◌+◌, ◌*◌, ◌≤◌, ◌<◌}
@@ -8,13 +8,13 @@ use native.Mathlib.Numerals.{add-one}
 use native.Mathlib.Omega.{arith}
 use lib.ListN.{length, get_or, drop, length-append, drop_of_length-le}
 use lib.Seq.{sets, length-sets, drop-cons}
-use borrow.Author.Tests.{le-leb, lt-leb}
 use Rattle.number.proofs.Lists.{sets_append}
 use Rattle.text.specs.Text.{decimal}
 use Rattle.text.specs.Put.{Put}
 use Rattle.text.proofs.Laws.{decimal_length}
+use Rattle.text.proofs.Putting.{put_then}
 use Rattle.schedule.specs.Record.{longest}
-use Rattle.rules.specs.Report.{closed_adds, outcome_in, closed_in}
+use Rattle.rules.specs.Report.{outcome_in, closed_in}
 use Rattle.lines.specs.Types.{Outcome}
 use Rattle.lines.specs.Lines.{outcome_text, closed_text, byte_text, byte_lines}
 
@@ -22,7 +22,7 @@ use Rattle.lines.specs.Lines.{outcome_text, closed_text, byte_text, byte_lines}
 abbrev pub lines_from : List ℕ → ℕ → List ℕ
 lines_from bytes i = byte_lines (suc i) (drop i bytes)
 
-pub word_few : (o : Outcome) → length (outcome_text o) ≤ 7
+word_few : (o : Outcome) → length (outcome_text o) ≤ 7
 word_few Outcome.Idle = omega arith
 word_few Outcome.Moved = omega arith
 word_few Outcome.Commit = omega arith
@@ -32,20 +32,14 @@ closed_few : (closed : Bool) → length (closed_text closed) ≤ 8
 closed_few true = omega arith
 closed_few false = omega arith
 
-pub byte_long : (b : ℕ) → length (byte_text b) ≡ length (outcome_text (outcome_in b)) + length (closed_text (closed_in b))
+byte_long : (b : ℕ) → length (byte_text b) ≡ length (outcome_text (outcome_in b)) + length (closed_text (closed_in b))
 byte_long b = length-append (outcome_text (outcome_in b)) (closed_text (closed_in b))
 
-pub closed_yes : (b : ℕ) → closed_adds ≤ b → closed_text true ≡ closed_text (closed_in b)
-closed_yes b h = rw (le-leb closed_adds b h) refl
-
-pub closed_no : (b : ℕ) → b < closed_adds → closed_text false ≡ closed_text (closed_in b)
-closed_no b h = rw (lt-leb closed_adds b h) refl
-
-pub byte_few : (b : ℕ) → length (byte_text b) ≤ 15
+byte_few : (b : ℕ) → length (byte_text b) ≤ 15
 byte_few b = omega (arith, byte_long b, word_few (outcome_in b), closed_few (closed_in b))
 
-pub number_few : (k l : ℕ) → l ≡ length (decimal k) → k ≤ longest → l ≤ 5
-number_few k l e h = rw e (decimal_length 5 k (omega arith) (omega arith))
+pub number_few : (k : ℕ) → k ≤ longest → length (decimal k) ≤ 5
+number_few k h = decimal_length 5 k (omega arith) (omega arith)
 
 -- lines whose numbers have at most five digits
 pub lines_few : (k : ℕ) (bytes : List ℕ) → k + length bytes ≤ 100000 → length (byte_lines k bytes) ≤ 20 * length bytes
@@ -74,11 +68,13 @@ module _ (bytes : List ℕ) (i : ℕ) where
         ap (byte_lines (suc i)) (drop-cons bytes i 0 some)
         ∙ rw (add-one i) (sym (append_assoc (decimal (suc i)) (byte_text (get_or bytes i 0)) (lines_from bytes (suc i))))
 
-    pub line_long : length (lines_from bytes i) ≡ length (decimal (i + 1)) + length (byte_text (get_or bytes i 0)) + length (lines_from bytes (i + 1))
+    pub line_long : length (lines_from bytes i)
+        ≡ length (decimal (i + 1)) + length (outcome_text (outcome_in (get_or bytes i 0))) + length (closed_text (closed_in (get_or bytes i 0)))
+        + length (lines_from bytes (i + 1))
     line_long =
         ap length first_line
         ∙ length-append (decimal (i + 1) ++ byte_text (get_or bytes i 0)) (lines_from bytes (i + 1))
-        ∙ ap (λ l. l + length (lines_from bytes (i + 1))) (length-append (decimal (i + 1)) (byte_text (get_or bytes i 0)))
+        ∙ omega (arith, length-append (decimal (i + 1)) (byte_text (get_or bytes i 0)), byte_long (get_or bytes i 0))
 
 -- before byte i, with `at` the place after the lines before: what is left gives what the whole gives
 pub record LinesLeft (bytes text₀ text : List ℕ) (at i : ℕ) : Type 0 where
@@ -86,26 +82,32 @@ pub record LinesLeft (bytes text₀ text : List ℕ) (at i : ℕ) : Type 0 where
   pub end : at + length (lines_from bytes i) ≡ length (byte_lines 1 bytes)
   pub rest : sets text at (lines_from bytes i) ≡ sets text₀ 0 (byte_lines 1 bytes)
 
-module _ (bytes text₀ : List ℕ) where
-  pub line_none : LinesLeft bytes text₀ text₀ 0 0
-  line_none = record { same = refl; end = omega arith; rest = refl }
+module _ (bytes text₀ text : List ℕ) (at i : ℕ) (g : LinesLeft bytes text₀ text at i) where
+  -- one turn puts a line
+  pub line_next : i < length bytes → (numbered worded after : List ℕ) (one two next : ℕ)
+      → Put text at (decimal (i + 1)) one numbered
+      → Put numbered one (outcome_text (outcome_in (get_or bytes i 0))) two worded
+      → Put worded two (closed_text (closed_in (get_or bytes i 0))) next after
+      → LinesLeft bytes text₀ after next (i + 1)
+  line_next some numbered worded after one two next p q r =
+      let line : List ℕ = decimal (i + 1) ++ byte_text (get_or bytes i 0) in
+      let put : Put text at line next after = put_then p (put_then q r) in
+      rw (put.ends, put.leaves) (record {
+        same = length-sets text at line ∙ g.same;
+        end = omega (
+          arith,
+          line_long bytes i some,
+          length-append (decimal (i + 1)) (byte_text (get_or bytes i 0)),
+          byte_long (get_or bytes i 0),
+          g.end,
+        );
+        rest = sym (sets_append text at line (lines_from bytes (i + 1))) ∙ ap (sets text at) (sym (first_line bytes i some)) ∙ g.rest;
+      })
 
-  module _ (text : List ℕ) (at i : ℕ) (g : LinesLeft bytes text₀ text at i) where
-    -- one turn puts a line
-    pub line_next : i < length bytes → {next : ℕ} {after : List ℕ} → Put text at (decimal (i + 1) ++ byte_text (get_or bytes i 0)) next after
-        → LinesLeft bytes text₀ after next (i + 1)
-    line_next some {next} {after} p =
-        let line : List ℕ = decimal (i + 1) ++ byte_text (get_or bytes i 0) in
-        rw (p.ends, p.leaves) (record {
-          same = length-sets text at line ∙ g.same;
-          end = omega (arith, line_long bytes i some, length-append (decimal (i + 1)) (byte_text (get_or bytes i 0)), g.end);
-          rest = sym (sets_append text at line (lines_from bytes (i + 1))) ∙ ap (sets text at) (sym (first_line bytes i some)) ∙ g.rest;
-        })
-
-    pub line_all : length bytes ≤ i → Put text₀ 0 (byte_lines 1 bytes) at text
-    line_all done =
-        let none : lines_from bytes i ≡ [] = lines_end bytes i done in
-        record {
-          ends = omega (arith, ap length none, g.end);
-          leaves = ap (sets text at) (sym none) ∙ g.rest;
-        }
+  pub line_all : length bytes ≤ i → Put text₀ 0 (byte_lines 1 bytes) at text
+  line_all done =
+      let none : lines_from bytes i ≡ [] = lines_end bytes i done in
+      record {
+        ends = omega (arith, ap length none, g.end);
+        leaves = ap (sets text at) (sym none) ∙ g.rest;
+      }

@@ -5,98 +5,70 @@ ghost use Rattle.std.specs.Prelude.{◌≡◌, suc, ◌+◌, ◌≤◌, length, 
 ghost use Rattle.text.specs.Put.{Put, each};
 ghost use Rattle.store.specs.Log.{places};
 ghost use Rattle.schedule.specs.Record.{longest};
-ghost use Rattle.rules.specs.Report.{outcome_of};
-ghost use Rattle.lines.specs.Lines.{outcome_text, count_text, record_text, log_text, byte_text, byte_lines};
+ghost use Rattle.rules.specs.Report.{outcome_of, closed_in};
+ghost use Rattle.lines.specs.Lines.{outcome_text, closed_text, count_text, record_text, log_text, byte_lines};
 
 use rules::{CLOSED, PARTIES};
 use store::{LOGS, LogPair, LogRecord};
 use text::{decimal_length, put, put_decimal};
 
-// The length of an outcome's word, by its number.
-fn word_length(k: u8) -> usize
-    ensures { result ≡ length (outcome_text (outcome_of k)) }
+// The text of an outcome, by its number.
+fn word(k: u8) -> &'static [u8]
+    ensures { result.now ≡ outcome_text (outcome_of k) }
 {
     match k {
-        1 => 6,
-        2 => 7,
-        3 => 6,
-        _ => 5,
+        1 => b" moved",
+        2 => b" commit",
+        3 => b" abort",
+        _ => b" idle",
     }
 }
 
-// The length of what follows a step's number.
-fn byte_length(b: u8) -> usize
-    ensures { result ≡ length (byte_text b) }
+// The end of a step's line, by the report's byte.
+fn line_end(b: u8) -> &'static [u8]
+    ensures { result.now ≡ closed_text (closed_in b) }
 {
-    let word = word_length(b % CLOSED);
-    if CLOSED <= b { word + 8 } else { word + 1 }
-}
-
-fn put_word(text: &mut [u8], place: usize, k: u8) -> usize
-    requires { place + length (outcome_text (outcome_of k)) ≤ length text.old }
-    ensures { Put text.old place (outcome_text (outcome_of k)) result text.new }
-{
-    match k {
-        1 => put(text, place, b" moved"),
-        2 => put(text, place, b" commit"),
-        3 => put(text, place, b" abort"),
-        _ => put(text, place, b" idle"),
-    }
-}
-
-fn put_byte(text: &mut [u8], place: usize, b: u8) -> usize
-    requires { place + length (byte_text b) ≤ length text.old }
-    ensures { Put text.old place (byte_text b) result text.new }
-{
-    let at = put_word(text, place, b % CLOSED);
-    if CLOSED <= b {
-        put(text, at, b" closed\n")
-    } else {
-        put(text, at, b"\n")
-    }
+    if CLOSED <= b { b" closed\n" } else { b"\n" }
 }
 
 // The length of a line a step.
+#[tactic(auto, using(crate::proofs::LineLaws::number_few, crate::proofs::LineLaws::line_long, crate::proofs::LineLaws::lines_end))]
 pub fn lines_length(bytes: &[u8]) -> usize
     requires { length bytes.now ≤ longest }
     ensures { result ≡ length (byte_lines 1 bytes.now) }
 {
-    let mut total: usize = 0;
-    let mut i: usize = 0;
-    while i < bytes.len() {
-        total = total + decimal_length(i + 1) + byte_length(bytes[i]);
-        i = i + 1;
+    let mut total = 0;
+    for (i, &b) in bytes.iter().enumerate() {
+        total += decimal_length(i + 1) + word(b % CLOSED).len() + line_end(b).len();
     }
     total
 }
 
 // A line a step.
+#[tactic(auto, using(crate::proofs::LineLaws::line_long, crate::proofs::LineLaws::line_next, crate::proofs::LineLaws::line_all))]
 pub fn put_lines(text: &mut [u8], bytes: &[u8]) -> usize
     requires { (length (byte_lines 1 bytes.now) ≤ length text.old) × (length bytes.now ≤ longest) }
     ensures { Put text.old 0 (byte_lines 1 bytes.now) result text.new }
 {
-    let mut at: usize = 0;
-    let mut i: usize = 0;
-    while i < bytes.len() {
-        let b = bytes[i];
-        let after = put_decimal(text, at, i + 1);
-        at = put_byte(text, after, b);
-        i = i + 1;
+    let mut at = 0;
+    for (i, &b) in bytes.iter().enumerate() {
+        at = put_decimal(text, at, i + 1);
+        at = put(text, at, word(b % CLOSED));
+        at = put(text, at, line_end(b));
     }
     at
 }
 
 // A space and a count for each of parties 0 to n.
+#[tactic(auto, using(crate::proofs::Laws::count_long, crate::proofs::Laws::count_next, text::proofs::Putting::put_all))]
 pub fn put_counts(text: &mut [u8], place: usize, n: u32, calls: [u16; PARTIES]) -> usize
     requires { (n ≤ places) × (place + length (each count_text (take (suc n) calls)) ≤ length text.old) }
     ensures { Put text.old place (each count_text (take (suc n) calls)) result text.new }
 {
-    let parties = n as usize + 1;
     let mut at = place;
-    for p in 0..parties {
-        let k = calls[p];
-        let after = put(text, at, b" ");
-        at = put_decimal(text, after, k as usize);
+    for &k in &calls[..=n as usize] {
+        at = put(text, at, b" ");
+        at = put_decimal(text, at, k as usize);
     }
     at
 }
@@ -105,12 +77,13 @@ fn put_record(text: &mut [u8], place: usize, r: LogRecord) -> usize
     requires { place + 1 ≤ length text.old }
     ensures { Put text.old place (record_text r) result text.new }
 {
-    match r {
-        LogRecord::None => put(text, place, b"-"),
-        LogRecord::Yes => put(text, place, b"y"),
-        LogRecord::Abort => put(text, place, b"a"),
-        LogRecord::Commit => put(text, place, b"c"),
-    }
+    let byte = match r {
+        LogRecord::None => b"-",
+        LogRecord::Yes => b"y",
+        LogRecord::Abort => b"a",
+        LogRecord::Commit => b"c",
+    };
+    put(text, place, byte)
 }
 
 // A space and the pair of records.
@@ -118,22 +91,19 @@ fn put_log(text: &mut [u8], place: usize, log: LogPair) -> usize
     requires { place + 3 ≤ length text.old }
     ensures { Put text.old place (log_text log) result text.new }
 {
-    let first = log.first;
-    let last = log.last;
-    let one = put(text, place, b" ");
-    let two = put_record(text, one, first);
-    put_record(text, two, last)
+    let first = put(text, place, b" ");
+    let last = put_record(text, first, log.first);
+    put_record(text, last, log.last)
 }
 
 // The same for each of participants 1 to n.
+#[tactic(auto, using(crate::proofs::Laws::log_long, crate::proofs::Laws::log_next, text::proofs::Putting::put_all))]
 pub fn put_logs(text: &mut [u8], place: usize, n: u32, logs: [LogPair; LOGS]) -> usize
     requires { (n ≤ places) × (place + length (each log_text (take n logs)) ≤ length text.old) }
     ensures { Put text.old place (each log_text (take n logs)) result text.new }
 {
-    let participants = n as usize;
     let mut at = place;
-    for i in 0..participants {
-        let log = logs[i];
+    for &log in &logs[..n as usize] {
         at = put_log(text, at, log);
     }
     at

@@ -1,6 +1,6 @@
 -- The listing of a schedule, the text that program `mark` prints, and that of a run from a tail. Assumes nothing.
-use Rattle.std.specs.Prelude.{List, [], ◌∷◌, ◌++◌, ℕ, suc, ◌≤◌, length, take}
-use Rattle.number.specs.Refusal.{Handed}
+use Rattle.std.specs.Prelude.{List, [], ◌∷◌, ◌++◌, ℕ, suc, ◌≤◌, length, take, Result}
+use Rattle.number.specs.Refusal.{Handed, refusal_number}
 use Rattle.text.specs.Text.{ascii, decimal, refusal_line}
 use Rattle.text.specs.Put.{each}
 use Rattle.schedule.specs.Schedule.{Reading, Accepted, Refused, read_schedule}
@@ -9,7 +9,8 @@ use Rattle.rules.specs.Run.{reports, after}
 use Rattle.passes.specs.Pass.{fresh_of}
 use Rattle.start.specs.Start.{start_release, read_from}
 use Rattle.lines.specs.Lines.{report_text, count_text, log_text}
-use Rattle.listing.specs.Types.{Header, Written, Release, Report}
+use Rattle.listing.specs.Types.{Header, Release, Report}
+use Rattle.listing.specs.Types as types
 
 -- A line a step: step number from 1, then idle, moved, commit or abort, then `closed` where it closed another's log
 
@@ -33,7 +34,7 @@ end_lines r = calls_line r ++ logs_line r
 -- of a run from a release, which goes by the header; a refusal prints its line alone
 abbrev pub reading_text : (Header → Release) → Reading → List ℕ
 reading_text start (Accepted h steps) = step_lines 1 (reports (start h) steps) ++ end_lines (after (start h) steps)
-reading_text start (Refused k place) = refusal_line k place
+reading_text start (Refused k place) = refusal_line (refusal_number k) place
 
 -- the listing of a schedule's bytes
 abbrev pub listing : List ℕ → List ℕ
@@ -54,7 +55,7 @@ pub record ListingFits : Type 0 where
 
 -- The listing's entries: the length written, or 6 with the length needed, and then the text is as it was
 
-abbrev pub list_answers : ℕ → List ℕ → Written
+abbrev pub list_answers : ℕ → List ℕ → Result ℕ types.Refused
 list_answers room schedule = text_answer room (listing schedule)
 
 -- what the answer hands over
@@ -64,7 +65,7 @@ list_hands room schedule = written_hands (list_answers room schedule)
 abbrev pub list_leaves : List ℕ → List ℕ → List ℕ
 list_leaves text schedule = text_left text (listing schedule)
 
-abbrev pub list_from_answers : ℕ → List ℕ → List ℕ → Written
+abbrev pub list_from_answers : ℕ → List ℕ → List ℕ → Result ℕ types.Refused
 list_from_answers room tail bytes = text_answer room (listing_from tail bytes)
 
 abbrev pub list_from_hands : ℕ → List ℕ → List ℕ → Handed

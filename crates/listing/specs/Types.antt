@@ -5,9 +5,10 @@ pub use Rattle.kind.specs.declared.Kind.{Kind}
 pub use Rattle.kind.specs.declared.Step.{Step}
 pub use Rattle.schedule.specs.declared.Header.{Header}
 pub use Rattle.schedule.specs.declared.Context.{Context}
-pub use Rattle.writer.specs.declared.Written.{Written}
+pub use Rattle.number.specs.declared.Refusal.{Refusal}
+pub use Rattle.number.specs.declared.Refused.{Refused}
 pub use Rattle.rules.specs.declared.Release.{Release}
 pub use Rattle.rules.specs.declared.Outcome.{Outcome}
-pub use Rattle.passes.specs.declared.Validated.{Validated}
 pub use Rattle.rules.specs.declared.Report.{Report}
 pub use Rattle.store.specs.declared.Store.{Store}
+pub use Rattle.start.specs.declared.Start.{Start}

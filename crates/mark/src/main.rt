@@ -3,29 +3,25 @@
 
 ghost use Rattle.std.specs.Prelude.{◌≡◌, ◌≤◌, ◌<◌, length, take};
 ghost use Rattle.schedule.specs.Record.{longest};
-ghost use Rattle.listing.specs.Listing.{listing, longest_text};
+ghost use Rattle.listing.specs.Listing.{listing};
 
 use input::read_full;
 use listing::{LONGEST_TEXT, list};
 use schedule::LONGEST;
 use std::io;
 use std::io::Read;
-use writer::Written;
 
 // Room for every listing.
 const TEXT: usize = LONGEST_TEXT;
 
-// Lists a schedule in a text that has room for every listing. Answers the listing's length.
-fn list_whole(schedule: &[u8], text: &mut [u8]) -> usize
-    requires { longest_text ≤ length text.old }
+type Text = [u8; TEXT];
+
+// Lists a schedule in a text. Answers the listing's length.
+fn list_whole(schedule: &[u8], text: &mut Text) -> usize
     ensures { (result ≤ length text.new) × (take result text.new ≡ listing schedule.now) }
 {
-    let listed = list(schedule, text);
-    match listed {
-        Written::Done(end) => end,
-        // That there is room rules this out.
-        Written::Refused(_, needed) => needed,
-    }
+    // That there is room rules out a refusal.
+    list(schedule, text).unwrap_or(0)
 }
 
 // Writes a text out, which must be the listing of the schedule. The schedule is handed in so that the contract can say so.
@@ -40,9 +36,9 @@ fn mark(
     rt: &impl Print,
     reader: &mut impl Read,
     schedule: &mut [u8],
-    text: &mut [u8],
+    text: &mut Text,
 ) -> io::Result<()>
-    requires { (longest < length schedule.old) × (longest_text ≤ length text.old) }
+    requires { longest < length schedule.old }
 {
     let length = read_full(reader, schedule)?;
     let end = list_whole(&schedule[..length], text);

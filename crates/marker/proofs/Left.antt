@@ -7,6 +7,7 @@ use native.Mathlib.Omega.{arith}
 use lib.ListN.{length, take, drop, length-append}
 use lib.Seq.{sets, sets-eq, take_at, drop_at}
 use borrow.Author.Tests.{le-ltb}
+use Rattle.std.specs.Prelude.{Ok}
 use Rattle.schedule.specs.Schedule.{Reading, Accepted, Refused}
 use Rattle.writer.proofs.Laws.{room_done}
 use Rattle.rules.specs.Run.{after}
@@ -18,7 +19,7 @@ use Rattle.passes.proofs.Begun.{after_places}
 use Rattle.form.specs.Form.{form_of, tail_bytes}
 use Rattle.form.proofs.Lengths.{tail_size_lem}
 use Rattle.form.proofs.Fits.{form_fits, has_fields}
-use Rattle.marker.specs.Types.{Step, Header, Release, Written}
+use Rattle.marker.specs.Types.{Step, Header, Release}
 use Rattle.marker.specs.Report.{report_bytes, tail_size, steps_left, tail_left}
 use Rattle.marker.specs.Run.{reading_answer, reading_leaves}
 
@@ -29,7 +30,7 @@ pub record Ran (report : List ℕ) (x : Reading) (written : ℕ) : Type 0 where
   pub length_written : written ≡ length steps + tail_size header
   pub room : length steps + tail_size header ≤ length report
 
-pub ran : (report : List ℕ) (x : Reading) (written : ℕ) → reading_answer (length report) x ≡ Written.Done written → Ran report x written
+pub ran : (report : List ℕ) (x : Reading) (written : ℕ) → reading_answer (length report) x ≡ Ok written → Ran report x written
 ran report (Accepted h steps) written d =
     let x = room_done (length report) (length steps + tail_size h) written d in
     record { header = h; steps = steps; accepted = refl; length_written = x.0; room = x.1 }
@@ -42,7 +43,7 @@ module _ (start : Header → Release) (report : List ℕ) {x : Reading} {h : Hea
   abbrev tail : List ℕ
   tail = tail_bytes (form_of h.kind) (tail_of (after (start h) steps))
 
-  pub answers : reading_answer (length report) x ≡ Written.Done (length steps + tail_size h)
+  pub answers : reading_answer (length report) x ≡ Ok (length steps + tail_size h)
   answers = simp (e, le-ltb (length report) (length steps + tail_size h) room)
 
   abbrev rest : List ℕ
@@ -80,7 +81,7 @@ module _ (start : Header → Release) (report : List ℕ) {x : Reading} {h : Hea
 
 -- so a run that was done gave them
 
-module _ (start : Header → Release) (report : List ℕ) {x : Reading} {h : Header} {steps : List Step} (e : x ≡ Accepted h steps) (has : HasPlaces (start h)) (written : ℕ) (d : reading_answer (length report) x ≡ Written.Done written) where
+module _ (start : Header → Release) (report : List ℕ) {x : Reading} {h : Header} {steps : List Step} (e : x ≡ Accepted h steps) (has : HasPlaces (start h)) (written : ℕ) (d : reading_answer (length report) x ≡ Ok written) where
   room_there : (written ≡ length steps + tail_size h) × (length steps + tail_size h ≤ length report)
   room_there = room_done (length report) (length steps + tail_size h) written (sym (ap (reading_answer (length report)) e) ∙ d)
 

@@ -3,19 +3,17 @@
 use mathlib.Core.Path.{◌≡◌, refl, sym, ap, ap₂, subst, subst₂, ◌∙◌}
 use mathlib.Core.Bool.{true}
 use mathlib.Core.List.{List, [], ◌∷◌, ◌++◌}
-use Prim.Native.Nat.{ℕ, suc, ◌+◌, ◌≤◌, ◌<◌}
+use Prim.Native.Nat.{ℕ, suc, ◌≤◌, ◌<◌}
 use native.Mathlib.Omega.{arith}
 use native.Mathlib.Decide.{dec_lt}
 use lib.ListN.{length, get_or, take, length-replicate, get_or-eq_default}
-use borrow.Author.Tests.{eq-eqb}
-use Rattle.number.specs.Refusal.{accepted}
+use Rattle.std.specs.Prelude.{None}
 use Rattle.store.specs.Log.{places, empty}
 use Rattle.kind.specs.Step.{AllInRange}
 use Rattle.schedule.specs.Record.{header_in_range, longest}
 use Rattle.schedule.specs.Schedule.{Accepted, steps_bytes}
 use Rattle.schedule.proofs.Laws.{header_under}
 use Rattle.schedule.proofs.RoundTrip.{steps_kept, read_in_range, few_bytes}
-use Rattle.writer.specs.Writer.{room_answer}
 use Rattle.writer.proofs.Laws.{room_done}
 use Rattle.rules.specs.Report.{step_byte}
 use Rattle.rules.specs.Step.{step}
@@ -34,9 +32,9 @@ use Rattle.form.proofs.Kept.{tail_kept}
 use Rattle.form.proofs.Lengths.{tail_size_lem}
 use Rattle.form.proofs.Fits.{form_fits, has_fields}
 use Rattle.start.specs.Start.{most_calls, tail_refusal, start_header, start_release, read_from}
-use Rattle.start.specs.Move.{moved_bytes, move_answers, move_leaves}
+use Rattle.start.specs.Move.{moved_bytes, move_leaves}
 use Rattle.start.proofs.Taken.{taken, few_calls, start_places}
-use Rattle.start.proofs.Answered.{move_done}
+use Rattle.start.proofs.Answered.{move_done, taken_answer}
 use Rattle.start.proofs.Moved.{moved_left}
 use Rattle.start.proofs.Kept.{rest_steps_kept, rest_bytes_kept}
 use Rattle.marker.specs.Types.{Kind, LogPair, Step, Header, Release}
@@ -65,7 +63,7 @@ module _ (h : Header) (steps : List Step) (g : header_in_range h ≡ true) (q : 
   tail_back = tail_kept (form_of h.kind) (tail_of reached) (run_fits h steps g q few)
 
   -- nothing refuses it while no count is over 54,000
-  tail_taken : ((p : ℕ) → get_or reached.calls p 0 < suc most_calls) → tail_refusal h.kind reached_tail ≡ accepted
+  tail_taken : ((p : ℕ) → get_or reached.calls p 0 < suc most_calls) → tail_refusal h.kind reached_tail ≡ None
   tail_taken some =
       taken h.kind reached_tail (tail_size_lem (form_of h.kind) (tail_of reached) (form_fits h.kind).0 (has_fields reached (run_places h steps)))
       (ap (tail_in_range h.kind (suc most_calls)) tail_back ∙ run_ranged h steps g q (suc most_calls) some)
@@ -114,7 +112,7 @@ module _ {n votes : ℕ} {steps : List Step} {bytes tail : List ℕ} (x : RunGav
   narrow_few : Countable narrow_reached.calls
   narrow_few = run_few (narrow_header n votes) steps (run_bytes x)
 
-  narrow_taken : tail_refusal Kind.Header tail ≡ accepted
+  narrow_taken : tail_refusal Kind.Header tail ≡ None
   narrow_taken =
       ap (tail_refusal Kind.Header) (run_tail x)
       ∙ tail_taken (narrow_header n votes) steps (run_range x).0 (run_range x).1 narrow_few (λ p. omega (arith, run_calls (narrow_header n votes) steps p, run_bytes x))
@@ -135,7 +133,7 @@ module _ {n votes : ℕ} {steps : List Step} {bytes tail : List ℕ} (x : RunGav
 move_held : {n votes : ℕ} {steps : List Step} {bytes narrow_tail tail : List ℕ} → RunGave (narrow_header n votes) steps bytes narrow_tail → MoveGave narrow_tail tail
     → Held n votes steps bytes tail
 move_held {narrow_tail = given} {tail = moved} x y =
-    let answer : move_answers (length y.buffer) given ≡ room_answer (length y.buffer) (tail_length wide) = simp (eq-eqb (tail_refusal Kind.Header given) accepted (narrow_taken x)) in
+    let answer = sym (taken_answer y.buffer given (narrow_taken x)) in
     let room = room_done (length y.buffer) (tail_length wide) y.written (sym answer ∙ y.done) in
     moved_held x moved (y.tail_is_left ∙ ap (λ k. take k (move_leaves y.buffer given)) room.0 ∙ moved_left y.buffer given (narrow_taken x) room.1)
 
@@ -151,10 +149,10 @@ module _ {n votes : ℕ} {steps : List Step} {bytes tail : List ℕ} (a : Held n
   held_header : start_header tail ≡ w
   held_header = ap (λ l. header_of Kind.WideHeader (tail_at wide l)) a.holds ∙ header_back w steps a.header a.ranged a.few
 
-  held_taken : ((p : ℕ) → get_or (after (fresh_of w) steps).calls p 0 < suc most_calls) → tail_refusal Kind.WideHeader tail ≡ accepted
+  held_taken : ((p : ℕ) → get_or (after (fresh_of w) steps).calls p 0 < suc most_calls) → tail_refusal Kind.WideHeader tail ≡ None
   held_taken some = ap (tail_refusal Kind.WideHeader) a.holds ∙ tail_taken w steps a.header a.ranged a.few some
 
-  held_read : tail_refusal Kind.WideHeader tail ≡ accepted → (rest : List Step) → AllInRange n rest → length (steps_bytes rest) ≤ longest
+  held_read : tail_refusal Kind.WideHeader tail ≡ None → (rest : List Step) → AllInRange n rest → length (steps_bytes rest) ≤ longest
       → read_from tail (steps_bytes rest) ≡ Accepted w rest
   held_read e rest q fits =
       rest_steps_kept tail rest e (subst (λ (h : Header). AllInRange h.n rest) (sym held_header) q) fits ∙ ap (λ (h : Header). Accepted h rest) held_header

@@ -7,25 +7,21 @@ use native.Mathlib.Omega.{arith}
 use lib.Dec.{ltb}
 use lib.ListN.{length}
 use lib.Seq.{sets}
+use Rattle.std.specs.Prelude.{Ok}
 use Rattle.number.proofs.Lists.{sets_append}
 use Rattle.schedule.specs.Schedule.{Reading}
 use Rattle.writer.specs.Writer.{room_answer}
 use Rattle.rules.specs.Run.{after}
 use Rattle.tail.specs.Tail.{tail_of}
 use Rattle.passes.specs.Pass.{validated, steps_of, step_bytes}
-use Rattle.passes.proofs.Passed.{counted, refused, bytes_length}
+use Rattle.passes.proofs.Passed.{counted, bytes_length}
 use Rattle.form.specs.Form.{form_of, tail_bytes}
-use Rattle.marker.specs.Types.{Header, Context, Release, Written, Validated}
+use Rattle.marker.specs.Types.{Header, Context, Release}
 use Rattle.marker.specs.Report.{report_bytes, tail_size}
 use Rattle.marker.specs.Run.{reading_answer, reading_leaves}
 
 module _ (start : Header → Release) (x : Reading) where
-  -- a refusal of the first pass is the run's
-  pub run_refused : (k p : ℕ) → validated x ≡ Validated.Refused k p → (room : ℕ) (out : List ℕ)
-      → (Written.Refused k p ≡ reading_answer room x) × (out ≡ reading_leaves start out x)
-  run_refused k p c room out = let e = refused x k p c in (sym (ap (reading_answer room) e), sym (ap (reading_leaves start out) e))
-
-  module _ (d : Context) (m : ℕ) (c : validated x ≡ Validated.Steps d m) where
+  module _ (d : Context) (m : ℕ) (c : validated x ≡ Ok (d, m)) where
     abbrev h : Header
     h = d.header
 

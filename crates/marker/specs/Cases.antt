@@ -1,7 +1,8 @@
 -- Document 01's cases P1 to P13, P1 as request 2026-01 amends it: the schedule's bytes or the log call, and what it must give. One theorem covers
 -- the table: proofs/Cases.antt. Assumes nothing.
 use Rattle.std.specs.Prelude.{◌≡◌, false, List, [], ◌∷◌, ℕ, suc, ◌+◌, take}
-use Rattle.store.specs.Entry.{EntryHanded, refused, log_once_entry, log_entry}
+use Rattle.number.specs.Refusal.{refusal_number}
+use Rattle.store.specs.Entry.{EntryHanded, log_once_entry, log_entry}
 use Rattle.schedule.specs.Schedule.{Reading, Accepted, Refused, read_schedule}
 use Rattle.rules.specs.Report.{outcome_number, closed_adds}
 use Rattle.rules.specs.Run.{after}
@@ -23,7 +24,7 @@ pub data Gives : Type 0 where
 abbrev pub reading_gives : Reading → Gives
 reading_gives (Accepted h steps) =
     Reports (step_bytes (fresh_of h) steps) (take (suc h.n) (after (fresh_of h) steps).calls) (take h.n (after (fresh_of h) steps).store.logs)
-reading_gives (Refused k place) = Refuses k place
+reading_gives (Refused k place) = Refuses (refusal_number k) place
 
 abbrev pub gives : Given → Gives
 gives (Schedule bytes) = reading_gives (read_schedule bytes)
@@ -66,6 +67,10 @@ aa = record { first = LogRecord.Abort; last = LogRecord.Abort }
 abbrev answers : ℕ → LogPair → Gives
 answers r l = Hands (record { number = 0; answer = r; wrote = false; log = l })
 
+-- a log entry's refusal, with the log as given
+abbrev refuses : ℕ → LogPair → Gives
+refuses k l = Hands (record { number = k; answer = 0; wrote = false; log = l })
+
 pub record Case : Type 0 where
   pub given : Given
   pub must : Gives
@@ -91,7 +96,7 @@ cases =
     -- P5: LogOnce abort on 13 answers commit
     ∷ case (LogOnce LogRecord.Abort yc) (answers 3 yc)
     -- P6: Log commit on 00
-    ∷ case (Log LogRecord.Commit nn) (Hands (refused 9 nn))
+    ∷ case (Log LogRecord.Commit nn) (refuses 9 nn)
     -- P7: empty
     ∷ case (Schedule []) (Refuses 1 0)
     -- P8: accepted, no steps

@@ -1,7 +1,7 @@
 -- Demand 3 and atomic commitment about the marker's own bytes, their word `closed`, and the counts of the tail: for every schedule that the run accepts,
 -- over what it leaves in the lent report. Participant i is the one at place i. Proved in proofs/Demand.antt, proofs/Closed.antt and proofs/Counts.antt.
 -- Assumes nothing.
-use Rattle.std.specs.Prelude.{◌≡◌, ◌↔◌, ◌≢◌, true, List, ◌++◌, map, ℕ, suc, ◌+◌, ◌≤◌, ◌<◌, length, get_or, take}
+use Rattle.std.specs.Prelude.{◌≡◌, ◌↔◌, ◌≢◌, true, List, ◌++◌, map, ℕ, suc, ◌+◌, ◌≤◌, ◌<◌, length, get_or, take, Ok}
 use Rattle.mask.specs.Mask.{has, full}
 use Rattle.store.specs.Log.{places}
 use Rattle.kind.specs.Step.{AllInRange}
@@ -15,7 +15,7 @@ use Rattle.rules.specs.Demand.{EveryYes, SomeAbort, Up, AllUndisturbed, Decides,
 use Rattle.rules.specs.Commitment.{AtomicCommitment}
 use Rattle.rules.specs.History.{KeepsGoing, history}
 use Rattle.passes.specs.Pass.{fresh_of, step_bytes}
-use Rattle.marker.specs.Types.{Step, Header, Written, Outcome}
+use Rattle.marker.specs.Types.{Step, Header, Outcome}
 use Rattle.form.specs.Form.{form_of, count_at}
 use Rattle.marker.specs.Report.{tail_size, steps_left, tail_left}
 use Rattle.marker.specs.Run.{run_answers, run_leaves}
@@ -71,12 +71,12 @@ pub record Marked (report schedule : List ℕ) (written : ℕ) : Type 0 where
 
 -- every run that is accepted
 abbrev pub MarkedHolds : Type 0
-MarkedHolds = (report schedule : List ℕ) (written : ℕ) → run_answers (length report) schedule ≡ Written.Done written → Marked report schedule written
+MarkedHolds = (report schedule : List ℕ) (written : ℕ) → run_answers (length report) schedule ≡ Ok written → Marked report schedule written
 
 -- For every header and list of steps that fits a schedule, a run of it is accepted, and the reported decisions are the marker's own bytes
 abbrev pub ListMarked : Type 0
 ListMarked =
     (h : Header) (steps : List Step) → header_in_range h ≡ true → AllInRange h.n steps → length (schedule_bytes h steps) ≤ longest
     → (report : List ℕ) → length steps + tail_size h ≤ length report
-    → (run_answers (length report) (schedule_bytes h steps) ≡ Written.Done (length steps + tail_size h))
+    → (run_answers (length report) (schedule_bytes h steps) ≡ Ok (length steps + tail_size h))
     × (steps_left h (run_leaves report (schedule_bytes h steps)) (length steps + tail_size h) ≡ step_bytes (fresh_of h) steps)

@@ -1,11 +1,11 @@
 -- Request 2026-03: kind 01 still means at most eight participants and a tail of 59 bytes; 0B has up to 32 and a tail of 320. The same steps under
 -- both headers give the same step bytes, and the wide tail holds the narrow tail's numbers. Proved in proofs/Headers.antt. Assumes nothing.
-use Rattle.std.specs.Prelude.{◌≡◌, true, List, ◌∷◌, ℕ, ◌+◌, ◌≤◌, length}
+use Rattle.std.specs.Prelude.{◌≡◌, true, List, ◌∷◌, ℕ, ◌+◌, ◌≤◌, length, Ok}
 use Rattle.kind.specs.Step.{AllInRange}
 use Rattle.schedule.specs.Record.{header_in_range, longest}
 use Rattle.schedule.specs.Schedule.{steps_bytes, schedule_bytes}
 use Rattle.form.specs.Form.{narrow, wide, tail_at}
-use Rattle.marker.specs.Types.{Kind, Step, Header, Written}
+use Rattle.marker.specs.Types.{Kind, Step, Header}
 use Rattle.marker.specs.Report.{steps_left, tail_left}
 use Rattle.marker.specs.Run.{run_answers, run_leaves}
 
@@ -20,8 +20,8 @@ pub record HeadersAgree (n votes : ℕ) (steps : List Step) (report : List ℕ) 
   pub narrow_bytes : schedule_bytes (narrow_header n votes) steps ≡ 0x01 ∷ n ∷ votes ∷ steps_bytes steps
   pub wide_bytes : schedule_bytes (wide_header n votes) steps ≡ 0x0B ∷ n ∷ votes ∷ 0 ∷ 0 ∷ 0 ∷ steps_bytes steps
   -- both are accepted
-  pub narrow_written : run_answers (length report) (schedule_bytes (narrow_header n votes) steps) ≡ Written.Done (length steps + 59)
-  pub wide_written : run_answers (length report) (schedule_bytes (wide_header n votes) steps) ≡ Written.Done (length steps + 320)
+  pub narrow_written : run_answers (length report) (schedule_bytes (narrow_header n votes) steps) ≡ Ok (length steps + 59)
+  pub wide_written : run_answers (length report) (schedule_bytes (wide_header n votes) steps) ≡ Ok (length steps + 320)
   -- the step bytes that they leave, and the fields of their tails
   pub steps_same : steps_left (narrow_header n votes) (run_leaves report (schedule_bytes (narrow_header n votes) steps)) (length steps + 59)
       ≡ steps_left (wide_header n votes) (run_leaves report (schedule_bytes (wide_header n votes) steps)) (length steps + 320)

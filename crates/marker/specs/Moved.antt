@@ -1,5 +1,5 @@
 -- Request 2026-04: runs in progress move over. It is said of what the entries answer and leave. Proved in proofs/Moved.antt. Assumes nothing.
-use Rattle.std.specs.Prelude.{◌≡◌, true, List, ◌++◌, ℕ, ◌+◌, ◌≤◌, length, take}
+use Rattle.std.specs.Prelude.{◌≡◌, true, List, ◌++◌, ℕ, ◌+◌, ◌≤◌, length, take, Ok}
 use Rattle.store.specs.Log.{places}
 use Rattle.kind.specs.Step.{AllInRange}
 use Rattle.schedule.specs.Record.{header_in_range, longest}
@@ -8,7 +8,7 @@ use Rattle.rules.specs.Run.{calls_made}
 use Rattle.passes.specs.Pass.{fresh_of}
 use Rattle.start.specs.Start.{most_calls, start_header, read_from}
 use Rattle.start.specs.Move.{move_answers, move_leaves}
-use Rattle.marker.specs.Types.{Step, Header, Written}
+use Rattle.marker.specs.Types.{Step, Header}
 use Rattle.marker.specs.Report.{tail_size, steps_left, tail_left}
 use Rattle.marker.specs.Run.{run_answers, run_leaves, run_from_answers, run_from_leaves}
 use Rattle.marker.specs.Headers.{narrow_header, wide_header}
@@ -22,7 +22,7 @@ pub record RunGave (h : Header) (steps : List Step) (bytes tail : List ℕ) : Ty
   pub schedule : List ℕ
   pub written : ℕ
   pub read : read_schedule schedule ≡ Accepted h steps
-  pub done : run_answers (length report) schedule ≡ Written.Done written
+  pub done : run_answers (length report) schedule ≡ Ok written
   pub bytes_left : bytes ≡ steps_left h (run_leaves report schedule) written
   pub tail_is_left : tail ≡ tail_left h (run_leaves report schedule) written
 
@@ -30,7 +30,7 @@ pub record RunGave (h : Header) (steps : List Step) (bytes tail : List ℕ) : Ty
 pub record MoveGave (tail wide : List ℕ) : Type 0 where
   pub buffer : List ℕ
   pub written : ℕ
-  pub done : move_answers (length buffer) tail ≡ Written.Done written
+  pub done : move_answers (length buffer) tail ≡ Ok written
   pub tail_is_left : wide ≡ take written (move_leaves buffer tail)
 
 -- a run from a tail: its steps, their bytes, and the tail after them
@@ -39,7 +39,7 @@ pub record RunFromGave (tail : List ℕ) (steps : List Step) (bytes after : List
   pub rest : List ℕ
   pub written : ℕ
   pub read : read_from tail rest ≡ Accepted (start_header tail) steps
-  pub done : run_from_answers (length report) tail rest ≡ Written.Done written
+  pub done : run_from_answers (length report) tail rest ≡ Ok written
   pub bytes_left : bytes ≡ steps_left (start_header tail) (run_from_leaves report tail rest) written
   pub tail_is_left : after ≡ tail_left (start_header tail) (run_from_leaves report tail rest) written
 
@@ -47,7 +47,7 @@ pub record RunFromGave (tail : List ℕ) (steps : List Step) (bytes after : List
 abbrev pub RunGives : Header → List Step → List ℕ → List ℕ → Type 0
 RunGives h steps bytes tail =
     (report : List ℕ) → length steps + tail_size h ≤ length report
-    → (run_answers (length report) (schedule_bytes h steps) ≡ Written.Done (length steps + tail_size h))
+    → (run_answers (length report) (schedule_bytes h steps) ≡ Ok (length steps + tail_size h))
     × (steps_left h (run_leaves report (schedule_bytes h steps)) (length steps + tail_size h) ≡ bytes)
     × (tail_left h (run_leaves report (schedule_bytes h steps)) (length steps + tail_size h) ≡ tail)
 
@@ -62,10 +62,10 @@ MoveAgrees =
 -- and none of these is refused: every tail that a narrow run gave is moved, and every rest in range that fits is run from there, where there is room
 pub record MoveGoesOn (n votes : ℕ) (narrow : List ℕ) : Type 0 where
   pub moved : List ℕ
-  pub move_done : (buffer : List ℕ) → 320 ≤ length buffer → (move_answers (length buffer) narrow ≡ Written.Done 320) × (take 320 (move_leaves buffer narrow) ≡ moved)
+  pub move_done : (buffer : List ℕ) → 320 ≤ length buffer → (move_answers (length buffer) narrow ≡ Ok 320) × (take 320 (move_leaves buffer narrow) ≡ moved)
   pub rest_read : (rest : List Step) → AllInRange n rest → length (steps_bytes rest) ≤ longest → read_from moved (steps_bytes rest) ≡ Accepted (wide_header n votes) rest
   pub rest_done : (rest : List Step) → AllInRange n rest → length (steps_bytes rest) ≤ longest → (report : List ℕ) → length rest + 320 ≤ length report
-      → run_from_answers (length report) moved (steps_bytes rest) ≡ Written.Done (length rest + 320)
+      → run_from_answers (length report) moved (steps_bytes rest) ≡ Ok (length rest + 320)
 
 abbrev pub NarrowGoesOn : Type 0
 NarrowGoesOn =

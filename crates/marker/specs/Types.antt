@@ -7,13 +7,11 @@ pub use Rattle.kind.specs.declared.Step.{Step}
 pub use Rattle.schedule.specs.declared.Header.{Header}
 pub use Rattle.schedule.specs.declared.Context.{Context}
 pub use Rattle.schedule.specs.declared.Record.{Record}
-pub use Rattle.schedule.specs.declared.reader.Before.{Before}
-pub use Rattle.schedule.specs.declared.reader.Read.{Read}
-pub use Rattle.writer.specs.declared.Written.{Written}
+pub use Rattle.number.specs.declared.Refusal.{Refusal}
+pub use Rattle.number.specs.declared.Refused.{Refused}
 pub use Rattle.rules.specs.declared.Release.{Release}
 pub use Rattle.rules.specs.declared.Outcome.{Outcome}
 pub use Rattle.rules.specs.declared.Report.{Report}
 pub use Rattle.tail.specs.declared.ParticipantFields.{ParticipantFields}
 pub use Rattle.tail.specs.declared.Tail.{Tail}
-pub use Rattle.passes.specs.declared.Validated.{Validated}
 pub use Rattle.form.specs.declared.Form.{Form}

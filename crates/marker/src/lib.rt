@@ -10,13 +10,12 @@ ghost use Rattle.marker.specs.Run.{reading_answer, reading_leaves, run_answers, 
 use form::form_of;
 use kind::Kind;
 use layout::put_tail;
-use number::TOO_SHORT;
-use passes::{Validated, first_step, run_steps, validate};
+use number::{Refusal, Refused};
+use passes::{first_step, run_steps, validate};
 use schedule::Context;
 use start::{read_start, validate_from};
 use state::{FIELDS, fresh};
 use store::Store;
-use writer::Written;
 
 // Writes the report of steps that were validated, where there is room for it. The release that they start from is lent as its numbers, and given as
 // its store.
@@ -28,63 +27,60 @@ fn write_report(
     numbers: &mut [u32; FIELDS],
     store: Store,
     report: &mut [u8],
-) -> Written
+) -> Result<usize, Refused>
     requires { Ready schedule.now start context steps numbers.old store }
     ensures { (result ≡ reading_answer (length report.old) (reading_from schedule.now context.header start))
         × (report.new ≡ reading_leaves (λ _. release_in numbers.old store) report.old (reading_from schedule.now context.header start)) }
 {
-    let header = context.header;
-    let kind = header.kind;
-    let form = form_of(kind);
+    let form = form_of(context.header.kind);
     let needed = steps + form.length();
     if report.len() < needed {
-        return Written::Refused(TOO_SHORT, needed);
+        return Err(Refused {
+            refusal: Refusal::TooShort,
+            value: needed,
+        });
     }
     let left = run_steps(schedule, start, context, steps, numbers, store, report);
     put_tail(report, steps, numbers, left, form);
-    Written::Done(needed)
+    Ok(needed)
 }
 
 // Marks a schedule. Answers the length written; a refusal leaves the report as it was.
-pub fn run(schedule: &[u8], report: &mut [u8]) -> Written
+pub fn run(schedule: &[u8], report: &mut [u8]) -> Result<usize, Refused>
     ensures { (result ≡ run_answers (length report.old) schedule.now)
         × (written_hands result ≡ run_hands (length report.old) schedule.now)
         × (report.new ≡ run_leaves report.old schedule.now) }
 {
-    let first = validate(schedule);
-    match first {
-        Validated::Steps(context, steps) => {
-            let header = context.header;
-            let start = first_step(header);
-            let mut numbers = fresh(header.n, header.votes);
-            write_report(
-                schedule,
-                start,
-                context,
-                steps,
-                &mut numbers,
-                Store::empty(),
-                report,
-            )
-        }
-        Validated::Refused(k, place) => Written::Refused(k, place),
-    }
+    let (context, steps) = validate(schedule)?;
+    let header = context.header;
+    let start = first_step(header);
+    let mut numbers = fresh(header.n, header.votes);
+    write_report(
+        schedule,
+        start,
+        context,
+        steps,
+        &mut numbers,
+        Store::empty(),
+        report,
+    )
 }
 
 // Marks steps that go on from a tail of 320 bytes. Answers the length written; a refusal leaves the report as it was.
-pub fn run_from(tail: &[u8], rest: &[u8], report: &mut [u8]) -> Written
+pub fn run_from(tail: &[u8], rest: &[u8], report: &mut [u8]) -> Result<usize, Refused>
     ensures { (result ≡ run_from_answers (length report.old) tail.now rest.now)
         × (written_hands result ≡ run_from_hands (length report.old) tail.now rest.now)
         × (report.new ≡ run_from_leaves report.old tail.now rest.now) }
 {
-    let start = read_start(tail, Kind::WideHeader);
-    let first = validate_from(start.refusal, start.context, rest);
-    match first {
-        Validated::Steps(context, steps) => {
-            let mut numbers = start.numbers;
-            let store = start.store;
-            write_report(rest, 0, context, steps, &mut numbers, store, report)
-        }
-        Validated::Refused(k, place) => Written::Refused(k, place),
-    }
+    let (start, steps) = validate_from(read_start(tail, Kind::WideHeader), rest)?;
+    let mut numbers = start.numbers;
+    write_report(
+        rest,
+        0,
+        start.context,
+        steps,
+        &mut numbers,
+        start.store,
+        report,
+    )
 }

@@ -9,7 +9,7 @@ ghost use Rattle.mask.specs.Mask.{has, insert, remove, full};
 pub fn has(m: u32, i: u32) -> bool
     ensures { result ≡ has i m }
 {
-    if i < 32 { (m >> i) % 2 == 1 } else { false }
+    i < 32 && (m >> i) % 2 == 1
 }
 
 // The mask with place i.

@@ -1,7 +1,7 @@
--- The types of messages, by number. Assumes nothing.
-use Rattle.std.specs.Prelude.{Bool, [], ◌∷◌, ℕ}
+-- The types of messages, by number, and what an event leads a party to. Assumes nothing.
+use Rattle.std.specs.Prelude.{Bool, [], ◌∷◌, ℕ, Option, Some, None}
 use Rattle.number.specs.Numbering.{numbered, is_number}
-use Rattle.message.specs.Types.{Message, Sent}
+use Rattle.message.specs.Types.{Message}
 
 -- Types: 1 request, 2 reply yes, 3 reply abort, 4 commit, 5 abort
 abbrev pub type_number : Message → ℕ
@@ -18,6 +18,22 @@ abbrev pub is_message : ℕ → Bool
 is_message k = is_number type_number message_of k
 
 -- message type sent or 0
-abbrev pub sent_number : Sent → ℕ
-sent_number Sent.Nothing = 0
-sent_number (Sent.Sends m) = type_number m
+abbrev pub sent_number : Option Message → ℕ
+sent_number None = 0
+sent_number (Some m) = type_number m
+
+-- what an event leads a party to: nothing where it is not due; else its next state, and the message that it sends, if any
+
+abbrev pub Transition : Type 0 → Type 0
+Transition P = Option (P × Option Message)
+
+abbrev pub not_due : {P : Type 0} → Transition P
+not_due = None
+
+-- to a state, with nothing sent, or with a message sent
+
+abbrev pub to : {P : Type 0} → P → Transition P
+to p = Some (p, None)
+
+abbrev pub sends : {P : Type 0} → Message → P → Transition P
+sends m p = Some (p, Some m)

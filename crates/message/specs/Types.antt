@@ -1,4 +1,3 @@
 -- The declared types of messages, under one name.
 pub use Rattle.message.specs.declared.Message.{Message}
-pub use Rattle.message.specs.declared.Sent.{Sent}
 pub use Rattle.message.specs.declared.Decision.{Decision}

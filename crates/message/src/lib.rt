@@ -1,31 +1,24 @@
-// Messages between the coordinator and the participants, and the decision that they come to.
+// Messages between the coordinator and the participants, the decision that they come to, and what an event leads a party to.
 #![tactic(auto)]
 
 ghost use Rattle.std.specs.Prelude.{◌≡◌};
-ghost use Rattle.message.specs.Message.{type_number, message_of, sent_number};
+ghost use Rattle.message.specs.Message.{type_number, message_of, sent_number, to};
 
-// A message's type.
-#[derive(Clone, Copy)]
+// A message's type, with its number.
+#[derive(Clone, Copy, Debug, PartialEq, Eq)]
 pub enum Message {
-    Request,
-    ReplyYes,
-    ReplyAbort,
-    Commit,
-    Abort,
+    Request = 1,
+    ReplyYes = 2,
+    ReplyAbort = 3,
+    Commit = 4,
+    Abort = 5,
 }
 
 impl Message {
-    // Its type's number.
     pub fn number(self) -> u32
         ensures { result ≡ type_number self }
     {
-        match self {
-            Message::Request => 1,
-            Message::ReplyYes => 2,
-            Message::ReplyAbort => 3,
-            Message::Commit => 4,
-            Message::Abort => 5,
-        }
+        self as u32
     }
 
     // The message with number k; where there is none, a request.
@@ -42,28 +35,26 @@ impl Message {
     }
 }
 
-// What a party sends in a step: a participant its reply, the coordinator the same to all.
-#[derive(Clone, Copy)]
-pub enum Sent {
-    Nothing,
-    Sends(Message),
-}
-
-impl Sent {
-    // The number of the type sent, or 0.
-    pub fn number(self) -> u32
-        ensures { result ≡ sent_number self }
-    {
-        match self {
-            Sent::Nothing => 0,
-            Sent::Sends(m) => m.number(),
-        }
-    }
+// The number of the type that a party sends in a step, if anything, or 0: a participant sends its reply, the coordinator the same to all.
+pub fn sent_number(sent: Option<Message>) -> u32
+    ensures { result ≡ sent_number sent }
+{
+    sent.map_or(0, Message::number)
 }
 
 // What a release comes to.
-#[derive(Clone, Copy)]
+#[derive(Clone, Copy, Debug, PartialEq, Eq)]
 pub enum Decision {
     Commit,
     Abort,
+}
+
+// What an event leads a party to: its next state, and the message that it sends, if any; nothing where the event is not due.
+pub type Transition<P> = Option<(P, Option<Message>)>;
+
+// To a state, with nothing sent.
+pub fn to<P>(party: P) -> Transition<P>
+    ensures { result ≡ to party }
+{
+    Some((party, None))
 }

@@ -2,8 +2,8 @@
 #![tactic(auto)]
 
 ghost use Rattle.std.specs.Prelude.{◌≡◌, ◌≤◌, ◌<◌, length, take};
-ghost use Rattle.form.specs.Form.{narrow, wide, tail_length};
-ghost use Rattle.move_tail.specs.Line.{moved_line, longest_line};
+ghost use Rattle.form.specs.Form.{narrow, tail_length};
+ghost use Rattle.move_tail.specs.Line.{moved_line};
 
 use form::TAIL;
 use frame::put_answer;
@@ -12,9 +12,13 @@ use start::move_tail;
 use std::io;
 use std::io::Read;
 
+// Room for two digits a byte, and the line's end.
+const TEXT: usize = 2 * TAIL + 1;
+
+type Text = [u8; TEXT];
+
 // Puts the line of a tail at the front of a text. Answers its length.
-fn put_moved(tail: &[u8], moved: &mut [u8], text: &mut [u8]) -> usize
-    requires { (tail_length wide ≤ length moved.old) × (longest_line ≤ length text.old) }
+fn put_moved(tail: &[u8], moved: &mut [u8; TAIL], text: &mut Text) -> usize
     ensures { (result ≤ length text.new) × (take result text.new ≡ moved_line tail.now) }
 {
     let answer = move_tail(tail, moved);
@@ -33,10 +37,10 @@ fn move_over(
     rt: &impl Print,
     reader: &mut impl Read,
     tail: &mut [u8],
-    moved: &mut [u8],
-    text: &mut [u8],
+    moved: &mut [u8; TAIL],
+    text: &mut Text,
 ) -> io::Result<()>
-    requires { (tail_length narrow < length tail.old) × (tail_length wide ≤ length moved.old) × (longest_line ≤ length text.old) }
+    requires { tail_length narrow < length tail.old }
 {
     let length = read_full(reader, tail)?;
     let end = put_moved(&tail[..length], moved, text);
@@ -46,6 +50,6 @@ fn move_over(
 fn main(rt: HostRuntime) -> io::Result<()> {
     let mut tail = [0u8; 60];
     let mut moved = [0u8; TAIL];
-    let mut text = [0u8; 2 * TAIL + 1];
+    let mut text = [0u8; TEXT];
     move_over(&rt, &mut rt.stdin(), &mut tail, &mut moved, &mut text)
 }

@@ -1,3 +1,4 @@
+pub mod Types
 pub mod Refusal
 pub mod Numbering
 pub mod Table

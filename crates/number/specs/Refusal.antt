@@ -1,6 +1,33 @@
 -- The numbers of refusals and what is handed over with them, document 01's table "What each refusal hands over". Every entry cites them.
 -- Assumes nothing.
-use Rattle.std.specs.Prelude.{ℕ}
+use Rattle.std.specs.Prelude.{ℕ, Result, Ok, Err}
+use Rattle.number.specs.Types.{Refusal, Refused}
+
+abbrev pub refusal_number : Refusal → ℕ
+-- schedule empty or over 32,768 bytes
+refusal_number Refusal.EmptyOrTooLong = 1
+-- unknown kind
+refusal_number Refusal.UnknownKind = 2
+-- body cut short
+refusal_number Refusal.BodyCutShort = 3
+-- header missing first or found later
+refusal_number Refusal.HeaderMisplaced = 4
+-- a number out of range, a vote beyond n, a forbidden pair
+refusal_number Refusal.OutOfRange = 5
+-- lent buffer too short
+refusal_number Refusal.TooShort = 6
+-- single step not due
+refusal_number Refusal.NotDue = 7
+-- LogOnce without yes or abort; Log without abort or commit
+refusal_number Refusal.WrongRecord = 8
+-- Log refused by its rule
+refusal_number Refusal.RefusedByRule = 9
+-- request 2026-04: a tail of another length
+refusal_number Refusal.WrongLength = 10
+
+-- nothing refused
+abbrev pub accepted : ℕ
+accepted = 0
 
 -- what an entry hands over: the refusal's number or 0, and a place or a length
 pub record Handed : Type 0 where
@@ -10,46 +37,13 @@ pub record Handed : Type 0 where
 abbrev pub hands : ℕ → ℕ → Handed
 hands k v = record { number = k; value = v }
 
--- nothing refused
-abbrev pub accepted : ℕ
-accepted = 0
+abbrev pub refused : Refusal → ℕ → Refused
+refused k v = record { refusal = k; value = v }
 
--- schedule empty or over 32,768 bytes
-abbrev pub empty_or_too_long : ℕ
-empty_or_too_long = 1
+abbrev pub refused_hands : Refused → Handed
+refused_hands r = hands (refusal_number r.refusal) r.value
 
--- unknown kind
-abbrev pub unknown_kind : ℕ
-unknown_kind = 2
-
--- body cut short
-abbrev pub body_cut_short : ℕ
-body_cut_short = 3
-
--- header missing first or found later
-abbrev pub header_misplaced : ℕ
-header_misplaced = 4
-
--- a number out of range, a vote beyond n, a forbidden pair
-abbrev pub out_of_range : ℕ
-out_of_range = 5
-
--- lent buffer too short
-abbrev pub too_short : ℕ
-too_short = 6
-
--- single step not due
-abbrev pub not_due : ℕ
-not_due = 7
-
--- LogOnce without yes or abort; Log without abort or commit
-abbrev pub wrong_record : ℕ
-wrong_record = 8
-
--- Log refused by its rule
-abbrev pub refused_by_rule : ℕ
-refused_by_rule = 9
-
--- request 2026-04: a tail of another length
-abbrev pub wrong_length : ℕ
-wrong_length = 10
+-- the same of an entry that answers a place or a length
+abbrev pub result_hands : Result ℕ Refused → Handed
+result_hands (Ok v) = hands accepted v
+result_hands (Err r) = refused_hands r

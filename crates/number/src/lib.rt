@@ -1,24 +1,46 @@
-// Document 01's numbers for refusals. How an enum goes to its number and back stands in specs/Numbering.antt.
+// Why an entry refuses, in document 01's numbers. How an enum goes to its number and back stands in specs/Numbering.antt.
 #![tactic(auto)]
 
 pub mod low;
 
-pub const EMPTY_OR_TOO_LONG: u32 = 1;
+ghost use Rattle.std.specs.Prelude.{◌≡◌};
+ghost use Rattle.number.specs.Refusal.{refusal_number, refused};
 
-pub const UNKNOWN_KIND: u32 = 2;
+// A refusal, with its number.
+#[derive(Clone, Copy, Debug, PartialEq, Eq)]
+pub enum Refusal {
+    EmptyOrTooLong = 1,
+    UnknownKind = 2,
+    BodyCutShort = 3,
+    HeaderMisplaced = 4,
+    OutOfRange = 5,
+    TooShort = 6,
+    NotDue = 7,
+    WrongRecord = 8,
+    RefusedByRule = 9,
+    WrongLength = 10,
+}
 
-pub const BODY_CUT_SHORT: u32 = 3;
+impl Refusal {
+    pub fn number(self) -> u32
+        ensures { result ≡ refusal_number self }
+    {
+        self as u32
+    }
+}
 
-pub const HEADER_MISPLACED: u32 = 4;
+// What an entry hands over with a refusal: a place or a length.
+#[derive(Clone, Copy, Debug, PartialEq, Eq)]
+pub struct Refused {
+    pub refusal: Refusal,
+    pub value: usize,
+}
 
-pub const OUT_OF_RANGE: u32 = 5;
+// A refusal of the whole that was handed in has place 0.
+impl From<Refusal> for Refused {
+    ghost from_gives = { λ k r. r ≡ refused k 0 };
 
-pub const TOO_SHORT: u32 = 6;
-
-pub const NOT_DUE: u32 = 7;
-
-pub const WRONG_RECORD: u32 = 8;
-
-pub const REFUSED_BY_RULE: u32 = 9;
-
-pub const WRONG_LENGTH: u32 = 10;
+    fn from(refusal: Refusal) -> Refused {
+        Refused { refusal, value: 0 }
+    }
+}

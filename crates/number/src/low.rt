@@ -8,10 +8,11 @@ fn put_each(buffer: &mut [u8], place: usize, width: usize, x: u32)
     requires { place + width ≤ length buffer.old }
     ensures { buffer.new ≡ sets buffer.old place (low_bytes width x) }
 {
+    let part = &mut buffer[place..place + width];
     let mut rest = x;
-    for i in 0..width {
-        buffer[place + i] = (rest % 256) as u8;
-        rest = rest / 256;
+    for byte in part.iter_mut() {
+        *byte = (rest % 256) as u8;
+        rest /= 256;
     }
 }
 
@@ -20,10 +21,7 @@ fn put_four(buffer: &mut [u8], place: usize, x: u32)
     requires { place + 4 ≤ length buffer.old }
     ensures { buffer.new ≡ sets buffer.old place (low_bytes 4 x) }
 {
-    buffer[place] = (x % 256) as u8;
-    buffer[place + 1] = (x / 256 % 256) as u8;
-    buffer[place + 2] = (x / 256 / 256 % 256) as u8;
-    buffer[place + 3] = (x / 256 / 256 / 256 % 256) as u8;
+    buffer[place..place + 4].copy_from_slice(&x.to_le_bytes());
 }
 
 // The low bytes of a number. Answers the place after them.
@@ -33,9 +31,9 @@ pub fn put(buffer: &mut [u8], place: usize, width: usize, x: u32) -> usize
 {
     if width == 4 {
         put_four(buffer, place, x);
-        return place + 4;
+    } else {
+        put_each(buffer, place, width, x);
     }
-    put_each(buffer, place, width, x);
     place + width
 }
 
@@ -44,11 +42,9 @@ pub fn number(bytes: &[u8], place: usize, width: usize) -> u32
     requires { (place + width ≤ length bytes.now) × (width ≤ 4) }
     ensures { (result ≡ low_number width (drop place bytes.now)) × (result < 256 ^ width) }
 {
-    let mut i = width;
     let mut x: u32 = 0;
-    while 0 < i {
-        i = i - 1;
-        x = bytes[place + i] as u32 + 256 * x;
+    for &byte in bytes[place..place + width].iter().rev() {
+        x = u32::from(byte) + 256 * x;
     }
     x
 }

@@ -1,19 +1,19 @@
 -- The rules of a participant as a table, in document 01's numbers: what each rule leads to from every state. Demand 3 does not refuse every wrong rule: it
 -- holds of one whose timeout in 4 keeps the heard mask. One theorem covers the table, proved in proofs/Cases.antt. Assumes nothing.
-use Rattle.std.specs.Prelude.{◌≡◌, true, false, cond, List, [], ◌∷◌, map, ℕ, eqb}
+use Rattle.std.specs.Prelude.{◌≡◌, true, false, cond, List, [], ◌∷◌, map, ℕ, eqb, Option, Some, None}
 use Rattle.mask.specs.Mask.{full}
 use Rattle.store.specs.Log.{record_of}
-use Rattle.message.specs.Message.{sent_number}
-use Rattle.participant.specs.Types.{Call, Decision, Participant, Transition, NotDue, To}
-use Rattle.participant.specs.Participant.{state_number, heard_of, of_numbers, to, on_request, on_decision, pending, on_answer, on_timeout, on_crash, on_restart}
+use Rattle.message.specs.Message.{Transition, to, sent_number}
+use Rattle.participant.specs.Types.{Call, Decision, Participant}
+use Rattle.participant.specs.Participant.{state_number, heard_of, of_numbers, on_request, on_decision, pending, on_answer, on_timeout, on_crash, on_restart}
 
 -- some participants, a rule, and where it leads each of them
 pub record Case : Type 0 where
   pub from : List Participant
-  pub rule : Participant → Transition
+  pub rule : Participant → Transition Participant
   pub must : List (List ℕ)
 
-abbrev pub case : List Participant → (Participant → Transition) → List (List ℕ) → Case
+abbrev pub case : List Participant → (Participant → Transition Participant) → List (List ℕ) → Case
 case from rule must = record { from = from; rule = rule; must = must }
 
 -- states 0 to 9, in 4 with this heard mask
@@ -21,12 +21,12 @@ abbrev pub states : ℕ → List Participant
 states h = map (λ s. of_numbers s h) (0 ∷ 1 ∷ 2 ∷ 3 ∷ 4 ∷ 5 ∷ 6 ∷ 7 ∷ 8 ∷ 9 ∷ [])
 
 -- the next state, its heard mask, and the message type sent or 0; nothing where the rule is not due
-abbrev pub leads : Transition → List ℕ
-leads NotDue = []
-leads (To p m) = state_number p ∷ heard_of p ∷ sent_number m ∷ []
+abbrev pub leads : Transition Participant → List ℕ
+leads None = []
+leads (Some (p, m)) = state_number p ∷ heard_of p ∷ sent_number m ∷ []
 
 -- participant 2 of 4: the answer, by its number, of its own log or, in 4, of log 3
-abbrev pub answer : ℕ → Participant → Transition
+abbrev pub answer : ℕ → Participant → Transition Participant
 answer k p = on_answer (full 4) 1 p (cond (eqb (state_number p) 4) 2 1) (record_of k)
 
 -- words of the table: not due; to a state; to 4 with a heard mask; to a state, with a message sent
@@ -75,24 +75,24 @@ cases =
 
 -- The calls pending on logs 1 to 4, by the number of their record
 
-abbrev pub calls_on : Participant → List Call
+abbrev pub calls_on : Participant → List (Option Call)
 calls_on p = map (pending 1 p) (0 ∷ 1 ∷ 2 ∷ 3 ∷ [])
 
-abbrev pub once : ℕ → Call
-once k = Call.LogOnce (record_of k)
+abbrev pub once : ℕ → Option Call
+once k = Some (Call.LogOnce (record_of k))
 
-abbrev pub log : ℕ → Call
-log k = Call.Log (record_of k)
+abbrev pub log : ℕ → Option Call
+log k = Some (Call.Log (record_of k))
 
 -- on its own log alone
-abbrev pub own : Call → List Call
-own c = Call.None ∷ c ∷ Call.None ∷ Call.None ∷ []
+abbrev pub own : Option Call → List (Option Call)
+own c = None ∷ c ∷ None ∷ None ∷ []
 
 -- Own call in 1 is LogOnce(yes), in 2 LogOnce(abort), in 5 or 6 Log of that decision. Call on another, unheard log in 4 is LogOnce(abort)
-abbrev pub calls : List (List Call)
+abbrev pub calls : List (List (Option Call))
 calls =
-    own Call.None ∷ own (once 1) ∷ own (once 2) ∷ own Call.None ∷ (Call.None ∷ Call.None ∷ once 2 ∷ once 2 ∷ []) ∷ own (log 3) ∷ own (log 2) ∷ own Call.None
-    ∷ own Call.None ∷ own Call.None ∷ []
+    own None ∷ own (once 1) ∷ own (once 2) ∷ own None ∷ (None ∷ None ∷ once 2 ∷ once 2 ∷ []) ∷ own (log 3) ∷ own (log 2) ∷ own None
+    ∷ own None ∷ own None ∷ []
 
 pub record CasesHold : Type 0 where
   pub transitions : map (λ c. map (λ p. leads (c.rule p)) c.from) cases ≡ map (λ c. c.must) cases

@@ -1,9 +1,10 @@
 -- The rules of a participant, in document 01's order. `all` is the mask of all participants, `own` the participant's place (its number less one),
 -- `j` the place of a log, `h` a heard mask. Assumes nothing.
-use Rattle.std.specs.Prelude.{Bool, true, cond, not, ◌&&◌, ◌||◌, [], ◌∷◌, ℕ, eqb, leb}
+use Rattle.std.specs.Prelude.{Bool, true, cond, not, ◌&&◌, ◌||◌, [], ◌∷◌, ℕ, eqb, leb, Option}
 use Rattle.number.specs.Numbering.{numbered, are_numbers}
 use Rattle.mask.specs.Mask.{has, insert}
-use Rattle.participant.specs.Types.{LogRecord, None, Yes, Abort, Commit, Call, Message, Sent, Decision, Participant, Waiting, VotingYes, Closing, Uncertain, Terminating, RecordingCommit, RecordingAbort, DoneCommit, DoneAbort, Down, Transition, NotDue, To}
+use Rattle.message.specs.Message.{Transition, not_due, to, sends}
+use Rattle.participant.specs.Types.{LogRecord, None, Yes, Abort, Commit, Call, Message, Decision, Participant, Waiting, VotingYes, Closing, Uncertain, Terminating, RecordingCommit, RecordingAbort, DoneCommit, DoneAbort, Down}
 
 -- States
 abbrev pub state_number : Participant → ℕ
@@ -59,13 +60,6 @@ in_range all own Down = true
 abbrev pub numbers_in_range : ℕ → ℕ → ℕ → ℕ → Bool
 numbers_in_range all own s h = is_participant s h && in_range all own (of_numbers s h)
 
--- to a state, with nothing sent, or with a message sent
-abbrev pub to : Participant → Transition
-to p = To p Sent.Nothing
-
-abbrev pub sends : Message → Participant → Transition
-sends m p = To p (Sent.Sends m)
-
 -- Vote request in 0: to 1 if its vote is yes, else to 2. Any other delivery has no effect
 abbrev pub on_request : Bool → Participant → Participant
 on_request vote Waiting = cond vote VotingYes Closing
@@ -97,90 +91,90 @@ on_decision d DoneAbort = DoneAbort
 on_decision d Down = Down
 
 -- Own call in 1 is LogOnce(yes), in 2 LogOnce(abort), in 5 or 6 Log of that decision. Call on another, unheard log in 4 is LogOnce(abort)
-abbrev pub own_call : ℕ → ℕ → Call → Call
-own_call own j c = cond (eqb j own) c Call.None
+abbrev pub own_call : ℕ → ℕ → Call → Option Call
+own_call own j c = cond (eqb j own) (Option.Some c) Option.None
 
-abbrev pub other_call : ℕ → ℕ → ℕ → Call
-other_call own h j = cond (eqb j own || has j h) Call.None (Call.LogOnce Abort)
+abbrev pub other_call : ℕ → ℕ → ℕ → Option Call
+other_call own h j = cond (eqb j own || has j h) Option.None (Option.Some (Call.LogOnce Abort))
 
-abbrev pub pending : ℕ → Participant → ℕ → Call
-pending own Waiting j = Call.None
+abbrev pub pending : ℕ → Participant → ℕ → Option Call
+pending own Waiting j = Option.None
 pending own VotingYes j = own_call own j (Call.LogOnce Yes)
 pending own Closing j = own_call own j (Call.LogOnce Abort)
-pending own Uncertain j = Call.None
+pending own Uncertain j = Option.None
 pending own (Terminating h) j = other_call own h j
 pending own RecordingCommit j = own_call own j (Call.Log Commit)
 pending own RecordingAbort j = own_call own j (Call.Log Abort)
-pending own DoneCommit j = Call.None
-pending own DoneAbort j = Call.None
-pending own Down j = Call.None
+pending own DoneCommit j = Option.None
+pending own DoneAbort j = Option.None
+pending own Down j = Option.None
 
 -- When nothing is left to hear in 4, it goes to 5 in the same step. With n = 1 that is on entering 4
 abbrev pub terminating : ℕ → ℕ → ℕ → Participant
 terminating all own h = cond (eqb (insert own h) all) RecordingCommit (Terminating h)
 
 -- In 1. Answer yes: send reply yes, to 3. Answer abort: send reply abort, to 8
-abbrev pub on_vote : LogRecord → Transition
-on_vote None = NotDue
+abbrev pub on_vote : LogRecord → Transition Participant
+on_vote None = not_due
 on_vote Yes = sends Message.ReplyYes Uncertain
 on_vote Abort = sends Message.ReplyAbort DoneAbort
-on_vote Commit = NotDue
+on_vote Commit = not_due
 
 -- In 2. Answer abort: send reply abort, to 8. Yes: to 4, nothing heard. Commit: to 7
-abbrev pub on_close : ℕ → ℕ → LogRecord → Transition
-on_close all own None = NotDue
+abbrev pub on_close : ℕ → ℕ → LogRecord → Transition Participant
+on_close all own None = not_due
 on_close all own Yes = to (terminating all own 0)
 on_close all own Abort = sends Message.ReplyAbort DoneAbort
 on_close all own Commit = to DoneCommit
 
 -- In 4. Abort: to 6. Commit: to 5. Yes: heard
-abbrev pub on_heard : ℕ → ℕ → ℕ → LogRecord → Transition
-on_heard all own h None = NotDue
+abbrev pub on_heard : ℕ → ℕ → ℕ → LogRecord → Transition Participant
+on_heard all own h None = not_due
 on_heard all own h Yes = to (terminating all own h)
 on_heard all own h Abort = to RecordingAbort
 on_heard all own h Commit = to RecordingCommit
 
 -- In 5 or 6 the answer leads to 7 or 8
-abbrev pub on_commit_recorded : LogRecord → Transition
-on_commit_recorded None = NotDue
-on_commit_recorded Yes = NotDue
-on_commit_recorded Abort = NotDue
+abbrev pub on_commit_recorded : LogRecord → Transition Participant
+on_commit_recorded None = not_due
+on_commit_recorded Yes = not_due
+on_commit_recorded Abort = not_due
 on_commit_recorded Commit = to DoneCommit
 
-abbrev pub on_abort_recorded : LogRecord → Transition
-on_abort_recorded None = NotDue
-on_abort_recorded Yes = NotDue
+abbrev pub on_abort_recorded : LogRecord → Transition Participant
+on_abort_recorded None = not_due
+on_abort_recorded Yes = not_due
 on_abort_recorded Abort = to DoneAbort
-on_abort_recorded Commit = NotDue
+on_abort_recorded Commit = not_due
 
 -- the answer r of log j to the call pending there
-abbrev pub on_answer : ℕ → ℕ → Participant → ℕ → LogRecord → Transition
-on_answer all own Waiting j r = NotDue
+abbrev pub on_answer : ℕ → ℕ → Participant → ℕ → LogRecord → Transition Participant
+on_answer all own Waiting j r = not_due
 on_answer all own VotingYes j r = on_vote r
 on_answer all own Closing j r = on_close all own r
-on_answer all own Uncertain j r = NotDue
+on_answer all own Uncertain j r = not_due
 on_answer all own (Terminating h) j r = on_heard all own (insert j h) r
 on_answer all own RecordingCommit j r = on_commit_recorded r
 on_answer all own RecordingAbort j r = on_abort_recorded r
-on_answer all own DoneCommit j r = NotDue
-on_answer all own DoneAbort j r = NotDue
-on_answer all own Down j r = NotDue
+on_answer all own DoneCommit j r = not_due
+on_answer all own DoneAbort j r = not_due
+on_answer all own Down j r = not_due
 
 -- Timeout: 0 to 2; 3 to 4; in 4 the heard mask is cleared
-abbrev pub on_timeout : ℕ → ℕ → Participant → Transition
+abbrev pub on_timeout : ℕ → ℕ → Participant → Transition Participant
 on_timeout all own Waiting = to Closing
-on_timeout all own VotingYes = NotDue
-on_timeout all own Closing = NotDue
+on_timeout all own VotingYes = not_due
+on_timeout all own Closing = not_due
 on_timeout all own Uncertain = to (terminating all own 0)
 on_timeout all own (Terminating h) = to (Terminating 0)
-on_timeout all own RecordingCommit = NotDue
-on_timeout all own RecordingAbort = NotDue
-on_timeout all own DoneCommit = NotDue
-on_timeout all own DoneAbort = NotDue
-on_timeout all own Down = NotDue
+on_timeout all own RecordingCommit = not_due
+on_timeout all own RecordingAbort = not_due
+on_timeout all own DoneCommit = not_due
+on_timeout all own DoneAbort = not_due
+on_timeout all own Down = not_due
 
 -- Crash: to 9, memory lost
-abbrev pub on_crash : Participant → Transition
+abbrev pub on_crash : Participant → Transition Participant
 on_crash Waiting = to Down
 on_crash VotingYes = to Down
 on_crash Closing = to Down
@@ -190,17 +184,17 @@ on_crash RecordingCommit = to Down
 on_crash RecordingAbort = to Down
 on_crash DoneCommit = to Down
 on_crash DoneAbort = to Down
-on_crash Down = NotDue
+on_crash Down = not_due
 
 -- Restart: to 2
-abbrev pub on_restart : Participant → Transition
-on_restart Waiting = NotDue
-on_restart VotingYes = NotDue
-on_restart Closing = NotDue
-on_restart Uncertain = NotDue
-on_restart (Terminating h) = NotDue
-on_restart RecordingCommit = NotDue
-on_restart RecordingAbort = NotDue
-on_restart DoneCommit = NotDue
-on_restart DoneAbort = NotDue
+abbrev pub on_restart : Participant → Transition Participant
+on_restart Waiting = not_due
+on_restart VotingYes = not_due
+on_restart Closing = not_due
+on_restart Uncertain = not_due
+on_restart (Terminating h) = not_due
+on_restart RecordingCommit = not_due
+on_restart RecordingAbort = not_due
+on_restart DoneCommit = not_due
+on_restart DoneAbort = not_due
 on_restart Down = to Closing

@@ -2,13 +2,13 @@
 #![tactic(auto)]
 
 ghost use Rattle.std.specs.Prelude.{◌≡◌, ◌<◌};
-ghost use Rattle.participant.specs.Participant.{state_number, heard_of, of_numbers, is_participant, heard_in_range, in_range, numbers_in_range, to, on_request, recording, on_decision, own_call, other_call, pending, terminating, on_vote, on_close, on_heard, on_commit_recorded, on_abort_recorded, on_answer, on_timeout, on_crash, on_restart};
+ghost use Rattle.participant.specs.Participant.{state_number, heard_of, of_numbers, heard_in_range, in_range, numbers_in_range, on_request, recording, on_decision, own_call, other_call, pending, terminating, on_vote, on_close, on_heard, on_commit_recorded, on_abort_recorded, on_answer, on_timeout, on_crash, on_restart};
 
-use message::{Decision, Message, Sent};
+use message::{Decision, Message, Transition, to};
 use store::{Call, LogRecord};
 
 // A participant in its state. Terminating, it has the mask of the participants heard.
-#[derive(Clone, Copy)]
+#[derive(Clone, Copy, Debug, PartialEq, Eq)]
 pub enum Participant {
     Waiting,
     VotingYes,
@@ -22,34 +22,12 @@ pub enum Participant {
     Down,
 }
 
-// What an event leads to.
-#[derive(Clone, Copy)]
-pub enum Transition {
-    NotDue,
-    To(Participant, Sent),
-}
-
-// To a state, with nothing sent.
-pub fn to(p: Participant) -> Transition
-    ensures { result ≡ to p }
-{
-    Transition::To(p, Sent::Nothing)
-}
-
 // A heard mask has nobody beyond n, not the participant itself, and not all others.
 fn heard_in_range(all: u32, own: u32, h: u32) -> bool
     requires { own < 32 }
     ensures { result ≡ heard_in_range all own h }
 {
-    if mask::within(h, all) {
-        if mask::has(h, own) {
-            false
-        } else {
-            mask::insert(h, own) != all
-        }
-    } else {
-        false
-    }
+    mask::within(h, all) && !mask::has(h, own) && mask::insert(h, own) != all
 }
 
 impl Participant {
@@ -76,16 +54,8 @@ impl Participant {
         ensures { result ≡ heard_of self }
     {
         match self {
-            Participant::Waiting => 0,
-            Participant::VotingYes => 0,
-            Participant::Closing => 0,
-            Participant::Uncertain => 0,
             Participant::Terminating(h) => h,
-            Participant::RecordingCommit => 0,
-            Participant::RecordingAbort => 0,
-            Participant::DoneCommit => 0,
-            Participant::DoneAbort => 0,
-            Participant::Down => 0,
+            _ => 0,
         }
     }
 
@@ -107,34 +77,14 @@ impl Participant {
         }
     }
 
-    // Whether these are the numbers of a participant.
-    fn known(state: u32, heard: u32) -> bool
-        ensures { result ≡ is_participant state heard }
-    {
-        let p = Participant::of(state, heard);
-        if p.number() == state {
-            p.heard() == heard
-        } else {
-            false
-        }
-    }
-
     // Whether a participant at this place can have its heard mask.
     fn in_range(self, all: u32, own: u32) -> bool
         requires { own < 32 }
         ensures { result ≡ in_range all own self }
     {
         match self {
-            Participant::Waiting => true,
-            Participant::VotingYes => true,
-            Participant::Closing => true,
-            Participant::Uncertain => true,
             Participant::Terminating(h) => heard_in_range(all, own, h),
-            Participant::RecordingCommit => true,
-            Participant::RecordingAbort => true,
-            Participant::DoneCommit => true,
-            Participant::DoneAbort => true,
-            Participant::Down => true,
+            _ => true,
         }
     }
 
@@ -143,11 +93,8 @@ impl Participant {
         requires { own < 32 }
         ensures { result ≡ numbers_in_range all own state heard }
     {
-        if Participant::known(state, heard) {
-            Participant::of(state, heard).in_range(all, own)
-        } else {
-            false
-        }
+        let p = Participant::of(state, heard);
+        p.number() == state && p.heard() == heard && p.in_range(all, own)
     }
 
     // A vote request, with the participant's own vote.
@@ -155,20 +102,9 @@ impl Participant {
         ensures { result ≡ on_request vote self }
     {
         match self {
-            Participant::Waiting => if vote {
-                Participant::VotingYes
-            } else {
-                Participant::Closing
-            },
-            Participant::VotingYes => Participant::VotingYes,
-            Participant::Closing => Participant::Closing,
-            Participant::Uncertain => Participant::Uncertain,
-            Participant::Terminating(h) => Participant::Terminating(h),
-            Participant::RecordingCommit => Participant::RecordingCommit,
-            Participant::RecordingAbort => Participant::RecordingAbort,
-            Participant::DoneCommit => Participant::DoneCommit,
-            Participant::DoneAbort => Participant::DoneAbort,
-            Participant::Down => Participant::Down,
+            Participant::Waiting if vote => Participant::VotingYes,
+            Participant::Waiting => Participant::Closing,
+            _ => self,
         }
     }
 
@@ -187,16 +123,8 @@ impl Participant {
         ensures { result ≡ on_decision d self }
     {
         match self {
-            Participant::Waiting => Participant::Waiting,
-            Participant::VotingYes => Participant::VotingYes,
-            Participant::Closing => Participant::Closing,
-            Participant::Uncertain => Participant::recording(d),
-            Participant::Terminating(_) => Participant::recording(d),
-            Participant::RecordingCommit => Participant::RecordingCommit,
-            Participant::RecordingAbort => Participant::RecordingAbort,
-            Participant::DoneCommit => Participant::DoneCommit,
-            Participant::DoneAbort => Participant::DoneAbort,
-            Participant::Down => Participant::Down,
+            Participant::Uncertain | Participant::Terminating(_) => Participant::recording(d),
+            _ => self,
         }
     }
 
@@ -213,155 +141,114 @@ impl Participant {
     }
 
     // The call pending on log j.
-    pub fn pending(self, own: u32, j: u32) -> Call
+    pub fn pending(self, own: u32, j: u32) -> Option<Call>
         ensures { result ≡ pending own self j }
     {
         match self {
-            Participant::Waiting => Call::None,
             Participant::VotingYes => own_call(own, j, Call::LogOnce(LogRecord::Yes)),
             Participant::Closing => own_call(own, j, Call::LogOnce(LogRecord::Abort)),
-            Participant::Uncertain => Call::None,
             Participant::Terminating(h) => other_call(own, h, j),
             Participant::RecordingCommit => own_call(own, j, Call::Log(LogRecord::Commit)),
             Participant::RecordingAbort => own_call(own, j, Call::Log(LogRecord::Abort)),
-            Participant::DoneCommit => Call::None,
-            Participant::DoneAbort => Call::None,
-            Participant::Down => Call::None,
+            _ => None,
         }
     }
 
     // The answer that log j gives to the call pending there.
-    pub fn answer(self, all: u32, own: u32, j: u32, r: LogRecord) -> Transition
+    pub fn answer(self, all: u32, own: u32, j: u32, r: LogRecord) -> Transition<Participant>
         requires { (own < 32) × (j < 32) }
         ensures { result ≡ on_answer all own self j r }
     {
         match self {
-            Participant::Waiting => Transition::NotDue,
             Participant::VotingYes => vote_answered(r),
             Participant::Closing => close_answered(all, own, r),
-            Participant::Uncertain => Transition::NotDue,
             Participant::Terminating(h) => heard_answered(all, own, mask::insert(h, j), r),
             Participant::RecordingCommit => commit_answered(r),
             Participant::RecordingAbort => abort_answered(r),
-            Participant::DoneCommit => Transition::NotDue,
-            Participant::DoneAbort => Transition::NotDue,
-            Participant::Down => Transition::NotDue,
+            _ => None,
         }
     }
 
-    pub fn timeout(self, all: u32, own: u32) -> Transition
+    pub fn timeout(self, all: u32, own: u32) -> Transition<Participant>
         requires { own < 32 }
         ensures { result ≡ on_timeout all own self }
     {
         match self {
             Participant::Waiting => to(Participant::Closing),
-            Participant::VotingYes => Transition::NotDue,
-            Participant::Closing => Transition::NotDue,
             Participant::Uncertain => to(Participant::terminating(all, own, 0)),
             Participant::Terminating(_) => to(Participant::Terminating(0)),
-            Participant::RecordingCommit => Transition::NotDue,
-            Participant::RecordingAbort => Transition::NotDue,
-            Participant::DoneCommit => Transition::NotDue,
-            Participant::DoneAbort => Transition::NotDue,
-            Participant::Down => Transition::NotDue,
+            _ => None,
         }
     }
 
-    pub fn crash(self) -> Transition
+    pub fn crash(self) -> Transition<Participant>
         ensures { result ≡ on_crash self }
     {
         match self {
-            Participant::Waiting => to(Participant::Down),
-            Participant::VotingYes => to(Participant::Down),
-            Participant::Closing => to(Participant::Down),
-            Participant::Uncertain => to(Participant::Down),
-            Participant::Terminating(_) => to(Participant::Down),
-            Participant::RecordingCommit => to(Participant::Down),
-            Participant::RecordingAbort => to(Participant::Down),
-            Participant::DoneCommit => to(Participant::Down),
-            Participant::DoneAbort => to(Participant::Down),
-            Participant::Down => Transition::NotDue,
+            Participant::Down => None,
+            _ => to(Participant::Down),
         }
     }
 
-    pub fn restart(self) -> Transition
+    pub fn restart(self) -> Transition<Participant>
         ensures { result ≡ on_restart self }
     {
         match self {
-            Participant::Waiting => Transition::NotDue,
-            Participant::VotingYes => Transition::NotDue,
-            Participant::Closing => Transition::NotDue,
-            Participant::Uncertain => Transition::NotDue,
-            Participant::Terminating(_) => Transition::NotDue,
-            Participant::RecordingCommit => Transition::NotDue,
-            Participant::RecordingAbort => Transition::NotDue,
-            Participant::DoneCommit => Transition::NotDue,
-            Participant::DoneAbort => Transition::NotDue,
             Participant::Down => to(Participant::Closing),
+            _ => None,
         }
     }
 }
 
 // A call on one's own log: none on another.
-fn own_call(own: u32, j: u32, c: Call) -> Call
+fn own_call(own: u32, j: u32, c: Call) -> Option<Call>
     ensures { result ≡ own_call own j c }
 {
-    if j == own { c } else { Call::None }
+    if j == own { Some(c) } else { None }
 }
 
 // LogOnce(abort) on another, unheard log.
-fn other_call(own: u32, heard: u32, j: u32) -> Call
+fn other_call(own: u32, heard: u32, j: u32) -> Option<Call>
     ensures { result ≡ other_call own heard j }
 {
-    if j == own {
-        Call::None
+    if j == own || mask::has(heard, j) {
+        None
     } else {
-        if mask::has(heard, j) {
-            Call::None
-        } else {
-            Call::LogOnce(LogRecord::Abort)
-        }
+        Some(Call::LogOnce(LogRecord::Abort))
     }
 }
 
 // The answer to LogOnce(yes), in voting yes.
-fn vote_answered(r: LogRecord) -> Transition
+fn vote_answered(r: LogRecord) -> Transition<Participant>
     ensures { result ≡ on_vote r }
 {
     match r {
-        LogRecord::None => Transition::NotDue,
-        LogRecord::Yes => Transition::To(Participant::Uncertain, Sent::Sends(Message::ReplyYes)),
-        LogRecord::Abort => Transition::To(
-            Participant::DoneAbort,
-            Sent::Sends(Message::ReplyAbort),
-        ),
-        LogRecord::Commit => Transition::NotDue,
+        LogRecord::Yes => Some((Participant::Uncertain, Some(Message::ReplyYes))),
+        LogRecord::Abort => Some((Participant::DoneAbort, Some(Message::ReplyAbort))),
+        _ => None,
     }
 }
 
 // The answer to LogOnce(abort), in closing.
-fn close_answered(all: u32, own: u32, r: LogRecord) -> Transition
+fn close_answered(all: u32, own: u32, r: LogRecord) -> Transition<Participant>
     requires { own < 32 }
     ensures { result ≡ on_close all own r }
 {
     match r {
-        LogRecord::None => Transition::NotDue,
+        LogRecord::None => None,
         LogRecord::Yes => to(Participant::terminating(all, own, 0)),
-        LogRecord::Abort => Transition::To(
-            Participant::DoneAbort,
-            Sent::Sends(Message::ReplyAbort),
-        ),
+        LogRecord::Abort => Some((Participant::DoneAbort, Some(Message::ReplyAbort))),
         LogRecord::Commit => to(Participant::DoneCommit),
     }
 }
 
 // The answer to LogOnce(abort) on another log, in terminating; `heard` has that log too.
-fn heard_answered(all: u32, own: u32, heard: u32, r: LogRecord) -> Transition
+fn heard_answered(all: u32, own: u32, heard: u32, r: LogRecord) -> Transition<Participant>
     requires { own < 32 }
     ensures { result ≡ on_heard all own heard r }
 {
     match r {
-        LogRecord::None => Transition::NotDue,
+        LogRecord::None => None,
         LogRecord::Yes => to(Participant::terminating(all, own, heard)),
         LogRecord::Abort => to(Participant::RecordingAbort),
         LogRecord::Commit => to(Participant::RecordingCommit),
@@ -369,25 +256,21 @@ fn heard_answered(all: u32, own: u32, heard: u32, r: LogRecord) -> Transition
 }
 
 // The answer to Log(commit), in recording commit.
-fn commit_answered(r: LogRecord) -> Transition
+fn commit_answered(r: LogRecord) -> Transition<Participant>
     ensures { result ≡ on_commit_recorded r }
 {
     match r {
-        LogRecord::None => Transition::NotDue,
-        LogRecord::Yes => Transition::NotDue,
-        LogRecord::Abort => Transition::NotDue,
         LogRecord::Commit => to(Participant::DoneCommit),
+        _ => None,
     }
 }
 
 // The answer to Log(abort), in recording abort.
-fn abort_answered(r: LogRecord) -> Transition
+fn abort_answered(r: LogRecord) -> Transition<Participant>
     ensures { result ≡ on_abort_recorded r }
 {
     match r {
-        LogRecord::None => Transition::NotDue,
-        LogRecord::Yes => Transition::NotDue,
         LogRecord::Abort => to(Participant::DoneAbort),
-        LogRecord::Commit => Transition::NotDue,
+        _ => None,
     }
 }

@@ -13,8 +13,7 @@ use schedule::reader::length_at;
 fn begins_schedule(first: u8) -> bool
     ensures { result ≡ is_header (kind_of first) }
 {
-    let kind = Kind::of(first as u32);
-    kind.is_header()
+    Kind::of(first as u32).is_header()
 }
 
 // Where the schedule that begins at a place ends: at the next header, or with the file.
@@ -27,7 +26,7 @@ pub fn schedule_end(file: &[u8], start: usize) -> usize
         if begins_schedule(file[at]) {
             return at;
         }
-        at = at + length_at(&file[at..]);
+        at += length_at(&file[at..]);
     }
     file.len()
 }

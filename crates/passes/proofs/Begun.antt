@@ -5,6 +5,7 @@ use Prim.Native.Nat.{ℕ, suc, ◌+◌, ◌*◌, ◌≤◌, ◌<◌}
 use native.Mathlib.Omega.{arith}
 use native.Mathlib.Decide.{dec_lt}
 use lib.ListN.{length, get_or, get_or-eq_default}
+use Rattle.std.specs.Prelude.{Ok}
 use Rattle.number.proofs.Table.{length_tabulate, get_d_tabulate}
 use Rattle.store.specs.Log.{places}
 use Rattle.schedule.specs.Record.{header_record, step_record, record_length}
@@ -19,7 +20,7 @@ use Rattle.rules.proofs.Room.{after_room}
 use Rattle.state.specs.Fields.{fields, HasPlaces, n_in, message_in, site_in, count_in, release_in}
 use Rattle.state.proofs.Parts.{count_in_lem}
 use Rattle.state.proofs.Filling.{fresh_places, release_in_lem}
-use Rattle.passes.specs.Types.{Step, Header, Context, Release, Store, Validated}
+use Rattle.passes.specs.Types.{Step, Header, Context, Release, Store}
 use Rattle.passes.specs.Pass.{validated, reading_from, steps_of, fresh_of, Ready, Leaves}
 use Rattle.passes.proofs.Passed.{passed, stand}
 
@@ -96,7 +97,7 @@ module _ (h : Header) where
   run_calls steps p = omega (arith, calls_most (fresh_of h) steps p, no_calls_lem p)
 
 -- the second pass starts from it, with what the first pass handed on
-pub begun : (c : Context) (s : List ℕ) (count : ℕ) → validated (read_schedule s) ≡ Validated.Steps c count
+pub begun : (c : Context) (s : List ℕ) (count : ℕ) → validated (read_schedule s) ≡ Ok (c, count)
     → Ready s (record_length (header_record c.header)) c count (fields (fresh_of c.header)) (fresh_of c.header).store
 begun c s count e =
     let h : Header = c.header in

@@ -8,12 +8,13 @@ use native.Mathlib.Omega.{arith}
 use native.Mathlib.Numerals.{add-one}
 use lib.ListN.{length, get_or, set, drop, length-set}
 use lib.Seq.{sets}
+use Rattle.std.specs.Prelude.{Some, Ok, Err}
 use Rattle.number.proofs.Table.{get_d_tabulate}
 use Rattle.mask.specs.Mask.{full}
 use Rattle.store.specs.Log.{places}
 use Rattle.kind.specs.Step.{in_range}
 use Rattle.schedule.specs.Record.{record_step, header_in_range}
-use Rattle.schedule.specs.Reader.{reader_answers, step_at, length_at}
+use Rattle.schedule.specs.Reader.{Read, reader_answers, step_at, length_at}
 use Rattle.schedule.specs.Schedule.{with_step}
 use Rattle.kind.proofs.Numbers.{more_steps}
 use Rattle.schedule.proofs.Laws.{header_size}
@@ -28,7 +29,7 @@ use Rattle.call.specs.Steps.{Steps, CanCount}
 use Rattle.rules.proofs.Causes.{cause}
 use Rattle.rules.proofs.Counts.{calls_by_bytes}
 use Rattle.rules.proofs.Room.{caused_room}
-use Rattle.passes.specs.Types.{Step, Header, Context, Record, Before, Read, Validated, Store, Release, Outcome}
+use Rattle.passes.specs.Types.{Step, Header, Context, Record, Refused, Store, Release, Outcome}
 use Rattle.passes.specs.Pass.{reading_from, validated_after, steps_of, step_bytes, Ready, Leaves}
 use Rattle.passes.proofs.Passed.{counted_mask}
 use Rattle.passes.proofs.Begun.{in_places}
@@ -49,7 +50,7 @@ pub record Going (s : List ℕ) (c : Context) (start count : ℕ) (r₀ : Releas
   pub has_places : HasPlaces release
   pub same_n : release.n ≡ c.header.n
   pub calls : (p : ℕ) → p < suc places → 3 * get_or release.calls p 0 + (length s - at) < 3 * count_limit
-  pub left : validated_after i (reading_from s c.header at) ≡ Validated.Steps c count
+  pub left : validated_after i (reading_from s c.header at) ≡ Ok (c, count)
   pub ends : after release (steps_of (reading_from s c.header at)) ≡ after r₀ (steps_of (reading_from s c.header start))
   pub report : sets out i (step_bytes release (steps_of (reading_from s c.header at))) ≡ sets out₀ 0 (step_bytes r₀ (steps_of (reading_from s c.header start)))
 
@@ -85,7 +86,7 @@ module _ {s : List ℕ} {c : Context} {start count : ℕ} {r₀ : Release} {out�
   pub countable : CanCount l
   countable p q = rw (g.numbers, count_in_lem g.release g.has_places p q) (omega (arith, g.calls p q))
 
-  module _ (x : Record) (size : ℕ) (e : reader_answers (drop at s) (Before.Header h) ≡ Read.Record x size) where
+  module _ (x : Record) (size : ℕ) (e : reader_answers (drop at s) (Some h) ≡ Ok (x, size)) where
     first : First s h at x size
     first = read_first s h at some x size e
 
@@ -95,7 +96,7 @@ module _ {s : List ℕ} {c : Context} {start count : ℕ} {r₀ : Release} {out�
     pub fits : at + size ≤ length s
     fits = first.within
 
-    here : validated_after i (with_step (record_step x) (reading_from s h (at + size))) ≡ Validated.Steps c count
+    here : validated_after i (with_step (record_step x) (reading_from s h (at + size))) ≡ Ok (c, count)
     here = ap (validated_after i) (sym first.first) ∙ g.left
 
     pub has_room : i < length out
@@ -136,27 +137,27 @@ module _ {s : List ℕ} {c : Context} {start count : ℕ} {r₀ : Release} {out�
         }
 
   -- no refusal comes
-  pub no_refusal : (k p : ℕ) → reader_answers (drop at s) (Before.Header h) ≡ Read.Refused k p → ⊥
-  no_refusal k p e =
-      let z : ◌≡◌ {A = ℕ} 0 1 = cc (sym (ap (validated_after i) (read_refused s h at some k p e)) ∙ g.left) in
+  pub no_refusal : (k : Refused) → reader_answers (drop at s) (Some h) ≡ Err k → ⊥
+  no_refusal k e =
+      let z : ◌≡◌ {A = ℕ} 0 1 = cc (sym (ap (validated_after i) (read_refused s h at some k e)) ∙ g.left) in
       omega arith
 
   -- so a record is there, and its step and length are those that the bytes begin with
   pub record Here : Type 0 where
     pub found : Record
     pub size : ℕ
-    pub read : reader_answers (drop at s) (Before.Header h) ≡ Read.Record found size
+    pub read : reader_answers (drop at s) (Some h) ≡ Ok (found, size)
     pub same_step : step_at (drop at s) ≡ record_step found
     pub same_size : length_at (drop at s) ≡ size
 
   pub here_read : Here
-  here_read = go (reader_answers (drop at s) (Before.Header h)) refl
+  here_read = go (reader_answers (drop at s) (Some h)) refl
     where
-      go : (x : Read) → reader_answers (drop at s) (Before.Header h) ≡ x → Here
-      go (Read.Record x l) e =
-          let y = read_untested (drop at s) (Before.Header h) x l e in
+      go : (x : Read) → reader_answers (drop at s) (Some h) ≡ x → Here
+      go (Ok (x, l)) e =
+          let y = read_untested (drop at s) (Some h) x l e in
           record { found = x; size = l; read = e; same_step = sym y.0; same_size = sym y.1 }
-      go (Read.Refused k p) e = absurd (no_refusal k p e)
+      go (Err k) e = absurd (no_refusal k e)
 
 -- at the end
 pub arrived : {s : List ℕ} {c : Context} {start count : ℕ} {r₀ : Release} {out₀ out : List ℕ} {at i : ℕ} {l : List ℕ} {store : Store} → Going s c start count r₀ out₀ out at i l store

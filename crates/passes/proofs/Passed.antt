@@ -1,10 +1,12 @@
 -- What the first pass tells of what it accepts: a reading by its count, the steps from a place on, and a whole schedule. Assumes nothing.
-use mathlib.Core.Path.{◌≡◌, refl, sym, ap, subst, ◌∙◌}
+use mathlib.Core.Path.{◌≡◌, refl, sym, ap, ap₂, subst, ◌∙◌}
 use mathlib.Core.Bool.{true}
 use mathlib.Core.List.{List, [], ◌∷◌}
 use Prim.Native.Nat.{ℕ, suc, ◌-◌, ◌≤◌}
 use native.Mathlib.Omega.{arith}
 use lib.ListN.{length, drop, length-drop}
+use Rattle.std.specs.Prelude.{None, Ok, Err}
+use Rattle.number.specs.Refusal as number
 use Rattle.mask.specs.Mask.{full}
 use Rattle.number.proofs.Laws.{and_left, and_right}
 use Rattle.kind.specs.Kind.{is_header}
@@ -17,8 +19,9 @@ use Rattle.schedule.proofs.Records.{read_yielded}
 use Rattle.schedule.proofs.Reading.{Says, SaysWhole, read_from_lem, read_says, header_more, steps_few}
 use Rattle.schedule.proofs.WithMask.{handed_on, read_same, begins_with}
 use Rattle.rules.specs.Step.{step}
-use Rattle.passes.specs.Types.{Step, Header, Context, Before, Read, Release, Validated}
-use Rattle.passes.specs.Pass.{validated, reading_from, steps_of, step_bytes, HandsOn, RunMask}
+use Rattle.passes.specs.Types.{Step, Header, Context, Refusal, Release}
+use Rattle.passes.specs.Types as types
+use Rattle.passes.specs.Pass.{Validated, validated, reading_from, steps_of, step_bytes, HandsOn, RunMask}
 use Rattle.passes.proofs.Reading.{count_same}
 
 -- a byte a step
@@ -26,8 +29,8 @@ pub bytes_length : (r : Release) (steps : List Step) → length (step_bytes r st
 bytes_length r [] = refl
 bytes_length r (s ∷ ss) = ap suc (bytes_length (step r s).next ss)
 
-context_same : (c d : Context) (a b : ℕ) → Validated.Steps c a ≡ Validated.Steps d b → c ≡ d
-context_same c d a b e = cc
+context_same : (c d : Context) (a b : ℕ) → ◌≡◌ {A = Validated} (Ok (c, a)) (Ok (d, b)) → c ≡ d
+context_same c d a b e = let p : ◌≡◌ {A = Context × ℕ} (c, a) (d, b) = cc in ap (λ (x : Context × ℕ). x.0) p
 
 -- what is handed on under a header in range
 pub hands_on : (bytes : List ℕ) (h : Header) → header_in_range h ≡ true → HandsOn bytes (context_of h)
@@ -40,7 +43,7 @@ pub record Counted (x : Reading) (c : Context) (count : ℕ) : Type 0 where
   pub context : c ≡ context_of c.header
   pub long : length (steps_of x) ≡ count
 
-pub counted : (x : Reading) (c : Context) (count : ℕ) → validated x ≡ Validated.Steps c count → Counted x c count
+pub counted : (x : Reading) (c : Context) (count : ℕ) → validated x ≡ Ok (c, count) → Counted x c count
 counted (Accepted h steps) c count e =
     let same : context_of h ≡ c = context_same (context_of h) c _ count e in
     record {
@@ -51,13 +54,15 @@ counted (Accepted h steps) c count e =
 counted (Refused k p) c count e = let z : ◌≡◌ {A = ℕ} 0 1 = cc in absurd (omega arith)
 
 -- which is the full set where the header is in range
-pub counted_mask : (x : Reading) (c : Context) (count : ℕ) → validated x ≡ Validated.Steps c count → header_in_range c.header ≡ true → c.all ≡ full c.header.n
+pub counted_mask : (x : Reading) (c : Context) (count : ℕ) → validated x ≡ Ok (c, count) → header_in_range c.header ≡ true → c.all ≡ full c.header.n
 counted_mask x c count e q = ap (λ (d : Context). d.all) (counted x c count e).context ∙ handed_on c.header q
 
 -- a reading that was refused
-pub refused : (x : Reading) (k place : ℕ) → validated x ≡ Validated.Refused k place → x ≡ Refused k place
+pub refused : (x : Reading) (k : Refusal) (place : ℕ) → validated x ≡ Err (number.refused k place) → x ≡ Refused k place
 refused (Accepted h steps) k place c = let z : ◌≡◌ {A = ℕ} 0 1 = cc in absurd (omega arith)
-refused (Refused j at) k place c = cc
+refused (Refused j at) k place c =
+    let p : number.refused j at ≡ number.refused k place = cc in
+    ap₂ Refused (ap (λ (r : types.Refused). r.refusal) p) (ap (λ (r : types.Refused). r.value) p)
 
 -- the steps from a place on, all of which were read
 
@@ -66,7 +71,7 @@ pub record Stand (s : List ℕ) (start : ℕ) (h : Header) (count : ℕ) : Type 
   pub bytes : length (steps_bytes (steps_of (reading_from s h start))) ≡ length s - start
   pub few : count ≤ length s - start
 
-pub stand : (s : List ℕ) (start : ℕ) (c : Context) (count : ℕ) → validated (reading_from s c.header start) ≡ Validated.Steps c count → Stand s start c.header count
+pub stand : (s : List ℕ) (start : ℕ) (c : Context) (count : ℕ) → validated (reading_from s c.header start) ≡ Ok (c, count) → Stand s start c.header count
 stand s start c count e =
     let h : Header = c.header in
     let x = counted (reading_from s h start) c count e in
@@ -82,7 +87,7 @@ pub record Passed (s : List ℕ) (h : Header) : Type 0 where
   pub begins : record_length (header_record h) ≤ length s
   pub after_header : reading_from s h (record_length (header_record h)) ≡ read_schedule s
 
-pub passed : (s : List ℕ) (c : Context) (count : ℕ) → validated (read_schedule s) ≡ Validated.Steps c count → Passed s c.header
+pub passed : (s : List ℕ) (c : Context) (count : ℕ) → validated (read_schedule s) ≡ Ok (c, count) → Passed s c.header
 passed s c count e =
     let x = counted (read_schedule s) c count e in
     let y = subst (SaysWhole s) x.accepted (read_says s) in
@@ -95,9 +100,9 @@ passed s c count e =
 
 -- the header that is read first
 
-read_in_range : (s : List ℕ) (h : Header) → reader_answers s Before.Nothing ≡ Read.Record (header_record h) (record_length (header_record h)) → header_in_range h ≡ true
+read_in_range : (s : List ℕ) (h : Header) → reader_answers s None ≡ Ok (header_record h, record_length (header_record h)) → header_in_range h ≡ true
 read_in_range s h e =
-    let follows = (read_yielded s Before.Nothing (header_record h) (record_length (header_record h)) e).follows in
+    let follows = (read_yielded s None (header_record h) (record_length (header_record h)) e).follows in
     rw (and_left (is_header h.kind) _ follows) at (and_right (is_header h.kind) _ follows)
 
 pub run_mask : RunMask

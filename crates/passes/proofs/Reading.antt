@@ -6,6 +6,8 @@ use Prim.Native.Nat.{ℕ, suc, ◌+◌, ◌-◌, ◌≤◌, ◌<◌}
 use native.Mathlib.Omega.{arith}
 use lib.ListN.{length, take, drop, length-drop, drop_of_length-le}
 use lib.Seq.{take_all, drop-drop}
+use Rattle.std.specs.Prelude.{Some, Ok, Err}
+use Rattle.number.specs.Refusal as number
 use Rattle.kind.specs.Kind.{body_length}
 use Rattle.kind.specs.Step.{step_kind, in_range}
 use Rattle.schedule.specs.Record.{record_step, record_length}
@@ -14,8 +16,9 @@ use Rattle.schedule.specs.Context.{context_of}
 use Rattle.schedule.specs.Schedule.{Reading, Accepted, Refused, with_step, steps_from}
 use Rattle.schedule.proofs.Records.{read_yielded, record_step_lem}
 use Rattle.schedule.proofs.Reading.{read_on, refused_first, refused_at_first}
-use Rattle.passes.specs.Types.{Step, Header, Context, Record, Before, Read, Validated}
-use Rattle.passes.specs.Pass.{reading_from, validated_after, steps_of}
+use Rattle.passes.specs.Types.{Step, Header, Context, Record}
+use Rattle.passes.specs.Types as types
+use Rattle.passes.specs.Pass.{Validated, reading_from, validated_after, steps_of}
 
 -- a part to the end is what is left of the whole
 pub tail_part : (s : List ℕ) (at : ℕ) → take (length s - at) (drop at s) ≡ drop at s
@@ -34,9 +37,9 @@ module _ (s : List ℕ) (h : Header) (at : ℕ) (some : at < length s) where
   some_left : 0 < length (drop at s)
   some_left = simp length-drop (omega arith)
 
-  pub read_first : (r : Record) (l : ℕ) → reader_answers (drop at s) (Before.Header h) ≡ Read.Record r l → First s h at r l
+  pub read_first : (r : Record) (l : ℕ) → reader_answers (drop at s) (Some h) ≡ Ok (r, l) → First s h at r l
   read_first r l e =
-      let y = read_yielded (drop at s) (Before.Header h) r l e in
+      let y = read_yielded (drop at s) (Some h) r l e in
       record {
         some = omega (arith, y.size);
         size = y.size ∙ ap (λ (x : Record). record_length x) (sym (record_step_lem h r y.follows).0);
@@ -45,9 +48,9 @@ module _ (s : List ℕ) (h : Header) (at : ℕ) (some : at < length s) where
         first = read_on h at (drop at s) r l e ∙ ap (λ b. with_step (record_step r) (steps_from h (at + l) b 0)) (drop-drop l at s);
       }
 
-  pub read_refused : (k p : ℕ) → reader_answers (drop at s) (Before.Header h) ≡ Read.Refused k p → reading_from s h at ≡ Refused k at
-  read_refused k p e =
-      refused_first h at (drop at s) k some_left (e ∙ ap (Read.Refused k) (refused_at_first (drop at s) (Before.Header h) k p e))
+  pub read_refused : (k : types.Refused) → reader_answers (drop at s) (Some h) ≡ Err k → reading_from s h at ≡ Refused k.refusal at
+  read_refused k e =
+      refused_first h at (drop at s) k.refusal some_left (e ∙ ap (λ p. Err (number.refused k.refusal p)) (refused_at_first (drop at s) (Some h) k e))
 
 pub none_left : (s : List ℕ) (h : Header) (at : ℕ) → length s ≤ at → reading_from s h at ≡ Accepted h []
 unfolding steps_from
@@ -55,20 +58,20 @@ none_left s h at end = ap (λ b. steps_from h at b 0) (drop_of_length-le s end)
 
 -- one step more is counted
 pub count_more : (m : ℕ) (s : Step) (x : Reading) → validated_after m (with_step s x) ≡ validated_after (m + 1) x
-count_more m s (Accepted h steps) = ap (Validated.Steps (context_of h)) (omega arith)
+count_more m s (Accepted h steps) = ap (λ n. Ok (context_of h, n)) (omega arith)
 count_more m s (Refused k p) = refl
 
 -- What a count tells
 
-pub count_same : (c d : Context) (a b : ℕ) → Validated.Steps c a ≡ Validated.Steps d b → a ≡ b
-count_same c d a b e = cc
+pub count_same : (c d : Context) (a b : ℕ) → ◌≡◌ {A = Validated} (Ok (c, a)) (Ok (d, b)) → a ≡ b
+count_same c d a b e = let p : ◌≡◌ {A = Context × ℕ} (c, a) (d, b) = cc in ap (λ (x : Context × ℕ). x.1) p
 
 -- where a first step is counted, the others are steps, and it is below the count
-pub one_more_lem : (i count : ℕ) (d : Context) (s : Step) (x : Reading) → validated_after i (with_step s x) ≡ Validated.Steps d count → i < count
+pub one_more_lem : (i count : ℕ) (d : Context) (s : Step) (x : Reading) → validated_after i (with_step s x) ≡ Ok (d, count) → i < count
 one_more_lem i count d s (Accepted h steps) c = omega (arith, count_same (context_of h) d (i + suc (length steps)) count c)
 one_more_lem i count d s (Refused k p) c = let z : ◌≡◌ {A = ℕ} 0 1 = cc in absurd (omega arith)
 
-pub step_first : (i count : ℕ) (d : Context) (s : Step) (x : Reading) → validated_after i (with_step s x) ≡ Validated.Steps d count
+pub step_first : (i count : ℕ) (d : Context) (s : Step) (x : Reading) → validated_after i (with_step s x) ≡ Ok (d, count)
     → steps_of (with_step s x) ≡ s ∷ steps_of x
 step_first i count d s (Accepted h steps) c = refl
 step_first i count d s (Refused k p) c = let z : ◌≡◌ {A = ℕ} 0 1 = cc in absurd (omega arith)

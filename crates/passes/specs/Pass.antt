@@ -1,7 +1,8 @@
 -- The two passes over a schedule. The first answers its header, with the mask of all participants, and how many steps there are, or the first refusal
 -- from the left; the second gives a byte a step and the release that the steps leave. Assumes nothing.
-use Rattle.std.specs.Prelude.{◌≡◌, true, List, [], map, ℕ, suc, ◌+◌, ◌-◌, ◌*◌, ◌≤◌, ◌<◌, length, drop}
+use Rattle.std.specs.Prelude.{◌≡◌, true, List, [], map, ℕ, suc, ◌+◌, ◌-◌, ◌*◌, ◌≤◌, ◌<◌, length, drop, Some, None, Result, Ok, Err}
 use Rattle.std.proofs.lemmas.List.Edits.{sets}
+use Rattle.number.specs.Refusal.{refused}
 use Rattle.mask.specs.Mask.{full}
 use Rattle.store.specs.Log.{places}
 use Rattle.schedule.specs.Record.{header_in_range}
@@ -12,12 +13,17 @@ use Rattle.rules.specs.State.{fresh}
 use Rattle.rules.specs.Report.{step_byte}
 use Rattle.rules.specs.Run.{reports, after, count_limit}
 use Rattle.state.specs.Fields.{fields, n_in, count_in, release_in}
-use Rattle.passes.specs.Types.{Step, Header, Context, Before, First, Store, Release, Validated}
+use Rattle.passes.specs.Types.{Step, Header, Context, Store, Release}
+use Rattle.passes.specs.Types as types
+
+-- a schedule's header, with the mask of all participants, and how many steps it has; or a refusal and its place
+abbrev pub Validated : Type 0
+Validated = Result (Context × ℕ) types.Refused
 
 -- the first pass, beside the steps counted before
 abbrev pub validated_after : ℕ → Reading → Validated
-validated_after before (Accepted h steps) = Validated.Steps (context_of h) (before + length steps)
-validated_after before (Refused k place) = Validated.Refused k place
+validated_after before (Accepted h steps) = Ok (context_of h, before + length steps)
+validated_after before (Refused k place) = Err (refused k place)
 
 abbrev pub validated : Reading → Validated
 validated x = validated_after 0 x
@@ -42,19 +48,19 @@ step_bytes r steps = map step_byte (reports r steps)
 -- place is read with it as the reader reads it under that header
 pub record HandsOn (bytes : List ℕ) (c : Context) : Type 0 where
   pub mask : c.all ≡ full c.header.n
-  pub reads : (place : ℕ) → read_with (drop place bytes) c ≡ reader_answers (drop place bytes) (Before.Header c.header)
+  pub reads : (place : ℕ) → read_with (drop place bytes) c ≡ reader_answers (drop place bytes) (Some c.header)
 
 -- So it is from the header of a schedule on, also where a later record is refused; and in the answer of the first pass. Proved in proofs/Passed.antt
 pub record RunMask : Type 0 where
-  pub header : (bytes : List ℕ) (c : Context) → first_of (reader_answers bytes Before.Nothing) ≡ First.Header c → HandsOn bytes c
-  pub answer : (bytes : List ℕ) (c : Context) (count : ℕ) → validated (read_schedule bytes) ≡ Validated.Steps c count → HandsOn bytes c
+  pub header : (bytes : List ℕ) (c : Context) → first_of (reader_answers bytes None) ≡ Ok c → HandsOn bytes c
+  pub answer : (bytes : List ℕ) (c : Context) (count : ℕ) → validated (read_schedule bytes) ≡ Ok (c, count) → HandsOn bytes c
 
 -- What the second pass starts from: `count` steps from a place on, with the mask that the first pass handed on, and numbers and a store that
 -- represent a release with the header's n. A counted call has a record of three bytes: every count has room for a call in each three of the bytes left
 pub record Ready (s : List ℕ) (start : ℕ) (c : Context) (count : ℕ) (l : List ℕ) (store : Store) : Type 0 where
   pub within : start ≤ length s
   pub header : header_in_range c.header ≡ true
-  pub steps : validated (reading_from s c.header start) ≡ Validated.Steps c count
+  pub steps : validated (reading_from s c.header start) ≡ Ok (c, count)
   pub numbers : l ≡ fields (release_in l store)
   pub same_n : n_in l ≡ c.header.n
   pub countable : (p : ℕ) → p < suc places → 3 * count_in l p + (length s - start) < 3 * count_limit

@@ -11,23 +11,20 @@ ghost use Rattle.passes.specs.Pass.{validated, reading_from, steps_of, Ready, Le
 
 use effect::outcome::report_byte;
 use kind::Kind;
-use number::EMPTY_OR_TOO_LONG;
+use number::{Refusal, Refused};
 use release::{makes_call, with_call, without_call};
-use schedule::reader::{First, Read, length_at, read_header, read_step, step_at};
+use schedule::reader::{length_at, read_header, read_step, step_at};
 use schedule::{Context, Header, LONGEST};
 use state::FIELDS;
 use store::Store;
 
-// A schedule's header, with the mask of all participants that was worked out there, and how many steps it has; or a refusal's number and place.
-#[derive(Clone, Copy)]
-pub enum Validated {
-    Steps(Context, usize),
-    Refused(u32, usize),
-}
-
 // Counts the steps from a place on, or leaves with the first refusal, whose place is the record's first byte. Each record is read with the mask of the
 // header's n.
-pub fn count_steps(schedule: &[u8], start: usize, context: Context) -> Validated
+pub fn count_steps(
+    schedule: &[u8],
+    start: usize,
+    context: Context,
+) -> Result<(Context, usize), Refused>
     requires { (start ≤ length schedule.now) × (length schedule.now ≤ longest) × (context ≡ context_of context.header) }
     ensures { result ≡ validated (reading_from schedule.now context.header start) }
 {
@@ -35,39 +32,39 @@ pub fn count_steps(schedule: &[u8], start: usize, context: Context) -> Validated
     let mut steps: usize = 0;
     while at < schedule.len() {
         let found = read_step(&schedule[at..], context);
-        let Read::Record(r, _) = found else {
-            return Validated::Refused(found.number(), at);
+        let Ok((_, length)) = found else {
+            return Err(Refused {
+                refusal: found.unwrap_err().refusal,
+                value: at,
+            });
         };
-        at = at + r.length();
-        steps = steps + 1;
+        at += length;
+        steps += 1;
     }
-    Validated::Steps(context, steps)
+    Ok((context, steps))
 }
 
 // The first pass: validates a schedule from the left, and counts.
-pub fn validate(schedule: &[u8]) -> Validated
+pub fn validate(schedule: &[u8]) -> Result<(Context, usize), Refused>
     ensures { result ≡ validated (read_schedule schedule.now) }
 {
     if LONGEST < schedule.len() {
-        return Validated::Refused(EMPTY_OR_TOO_LONG, 0);
+        return Err(Refusal::EmptyOrTooLong.into());
     }
-    match read_header(schedule) {
-        First::Header(context) => count_steps(schedule, first_step(context.header), context),
-        First::Refused(k) => Validated::Refused(k, 0),
-    }
+    let context = read_header(schedule)?;
+    count_steps(schedule, first_step(context.header), context)
 }
 
 // Where the steps of a schedule begin: after the header's kind and body.
 pub fn first_step(header: Header) -> usize
     ensures { result ≡ record_length (header_record header) }
 {
-    let kind = header.kind;
-    1 + Kind::body(kind)
+    1 + Kind::body(header.kind)
 }
 
 // The second pass: takes the steps that stand from a place on and were validated, and writes a byte for each. What the first pass tested is not
-// tested again, and the mask of all participants is the one that it handed on. The release that they start from is lent as its numbers, which each step changes in place, and given as its store, which goes into
-// and out of every step that makes a store call, and comes back.
+// tested again, and the mask of all participants is the one that it handed on. The release that they start from is lent as its numbers, which each
+// step changes in place, and given as its store, which goes into and out of every step that makes a store call, and comes back.
 pub fn run_steps(
     schedule: &[u8],
     start: usize,
@@ -89,14 +86,13 @@ pub fn run_steps(
         let size = length_at(&schedule[at..]);
         if makes_call(s) {
             let stepped = with_call(numbers, left, context.all, s);
-            let outcome = stepped.outcome;
-            report[i] = report_byte(outcome, stepped.closed);
+            report[i] = report_byte(stepped.outcome, stepped.closed);
             left = stepped.store;
         } else {
             report[i] = report_byte(without_call(numbers, context.all, s), false);
         }
-        at = at + size;
-        i = i + 1;
+        at += size;
+        i += 1;
     }
     left
 }

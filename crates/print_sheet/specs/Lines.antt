@@ -1,6 +1,7 @@
 -- What program `print_sheet` prints: a line for each schedule of the sheet, or the refusal's line. Assumes nothing.
 use Rattle.std.specs.Prelude.{cond, List, [], ◌∷◌, ℕ, ◌*◌, ◌/◌, ◌%◌, eqb, length, get_or}
-use Rattle.number.specs.Refusal.{out_of_range}
+use Rattle.number.specs.Refusal.{refusal_number}
+use Rattle.number.specs.declared.Refusal.{Refusal}
 use Rattle.text.specs.Text.{digit, refusal_line}
 use Rattle.text.specs.Put.{each}
 use Rattle.exercises.specs.Sheet.{sheet, header_for, in_bounds}
@@ -17,7 +18,7 @@ line_of (b ∷ bytes) = digit (b / 16) ∷ digit (b % 16) ∷ separator (length 
 
 -- a line a schedule; a sheet outside its bounds has the line of its refusal
 abbrev pub sheet_text : ℕ → ℕ → ℕ → List ℕ
-sheet_text n votes k = cond (in_bounds n votes k) (each line_of (sheet (header_for n votes) k)) (refusal_line out_of_range 0)
+sheet_text n votes k = cond (in_bounds n votes k) (each line_of (sheet (header_for n votes) k)) (refusal_line (refusal_number Refusal.OutOfRange) 0)
 
 -- the input has n, the vote mask and k; a byte that is missing counts as 0
 abbrev pub asked_text : List ℕ → List ℕ

@@ -5,8 +5,7 @@ ghost use Rattle.std.specs.Prelude.{◌≡◌, ◌+◌, ◌*◌, ◌≤◌, leng
 ghost use Rattle.schedule.specs.Record.{longest};
 ghost use Rattle.text.specs.Put.{Put, each};
 ghost use Rattle.parts.specs.Parts.{parts};
-ghost use Rattle.exercises.specs.Promises.{longest_sheet};
-ghost use Rattle.print_sheet.specs.Lines.{line_of, separator, sheet_text, asked_text, longest_text};
+ghost use Rattle.print_sheet.specs.Lines.{line_of, separator, sheet_text, asked_text};
 
 use exercises::LONGEST_SHEET;
 use input::read_full;
@@ -15,8 +14,12 @@ use schedule::reader::byte_at;
 use sheet::write_sheet;
 use std::io;
 use std::io::Read;
-use text::{put_hexadecimal, put_refusal};
-use writer::Written;
+use text::{put, put_hexadecimal, put_refusal};
+
+// Room for every sheet, and for the text of every one.
+type Sheet = [u8; LONGEST_SHEET];
+
+type Text = [u8; 3 * LONGEST_SHEET];
 
 // What stands after a byte of a line: a space, or the line's end where it is the last.
 fn after_byte(left: usize) -> u8
@@ -26,28 +29,27 @@ fn after_byte(left: usize) -> u8
 }
 
 // The line of a schedule.
+#[tactic(auto, using(crate::proofs::Laws::putting_bytes))]
 fn put_line(text: &mut [u8], place: usize, bytes: &[u8]) -> usize
     requires { place + length (line_of bytes.now) ≤ length text.old }
     ensures { Put text.old place (line_of bytes.now) result text.new }
 {
     let mut at = place;
-    let mut i: usize = 0;
-    while i < bytes.len() {
-        let end = put_hexadecimal(text, at, &bytes[i..i + 1]);
-        text[end] = after_byte(bytes.len() - (i + 1));
-        at = end + 1;
-        i = i + 1;
+    for (i, &b) in bytes.iter().enumerate() {
+        at = put_hexadecimal(text, at, &[b]);
+        at = put(text, at, &[after_byte(bytes.len() - (i + 1))]);
     }
     at
 }
 
 // The lines of the schedules that stand one after another.
+#[tactic(auto, using(crate::proofs::Laws::putting_lines))]
 fn put_lines(text: &mut [u8], schedules: &[u8]) -> usize
     requires { (length schedules.now ≤ longest) × (3 * length schedules.now ≤ length text.old) }
     ensures { Put text.old 0 (each line_of (parts schedules.now)) result text.new }
 {
-    let mut place: usize = 0;
-    let mut at: usize = 0;
+    let mut place = 0;
+    let mut at = 0;
     while at < schedules.len() {
         let end = schedule_end(schedules, at);
         place = put_line(text, place, &schedules[at..end]);
@@ -56,21 +58,18 @@ fn put_lines(text: &mut [u8], schedules: &[u8]) -> usize
     place
 }
 
-// The text of a sheet, or of its refusal, at the front of a buffer that has room for every one. Answers its length.
-fn put_sheet(n: u32, votes: u32, k: u32, sheet: &mut [u8], text: &mut [u8]) -> usize
-    requires { (longest_sheet ≤ length sheet.old) × (longest_text ≤ length text.old) }
+// The text of a sheet, or of its refusal, at the front of the buffer. Answers its length.
+fn put_sheet(n: u32, votes: u32, k: u32, sheet: &mut Sheet, text: &mut Text) -> usize
     ensures { (result ≤ length text.new) × (take result text.new ≡ sheet_text n votes k) }
 {
-    let written = write_sheet(n, votes, k, sheet);
-    match written {
-        Written::Done(end) => put_lines(text, &sheet[..end]),
-        Written::Refused(number, value) => put_refusal(text, 0, number, value),
+    match write_sheet(n, votes, k, sheet) {
+        Ok(end) => put_lines(text, &sheet[..end]),
+        Err(refused) => put_refusal(text, 0, refused),
     }
 }
 
 // The text of the sheet that was asked for.
-fn put_asked(asked: &[u8], sheet: &mut [u8], text: &mut [u8]) -> usize
-    requires { (longest_sheet ≤ length sheet.old) × (longest_text ≤ length text.old) }
+fn put_asked(asked: &[u8], sheet: &mut Sheet, text: &mut Text) -> usize
     ensures { (result ≤ length text.new) × (take result text.new ≡ asked_text asked.now) }
 {
     put_sheet(
@@ -94,11 +93,9 @@ fn print_asked(
     rt: &impl Print,
     reader: &mut impl Read,
     asked: &mut [u8],
-    sheet: &mut [u8],
-    text: &mut [u8],
-) -> io::Result<()>
-    requires { (longest_sheet ≤ length sheet.old) × (longest_text ≤ length text.old) }
-{
+    sheet: &mut Sheet,
+    text: &mut Text,
+) -> io::Result<()> {
     let length = read_full(reader, asked)?;
     let end = put_asked(&asked[..length], sheet, text);
     write_asked(rt, &asked[..length], &text[..end])

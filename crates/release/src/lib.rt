@@ -105,17 +105,7 @@ fn restart(fields: &mut [u32; FIELDS], all: u32, p: u32) -> Outcome
 pub fn makes_call(s: Step) -> bool
     ensures { result ≡ makes_call s }
 {
-    match s {
-        Step::Start => false,
-        Step::Deliver(_, _) => false,
-        Step::Copy(_, _) => false,
-        Step::Lose(_, _) => false,
-        Step::Call(_, _) => true,
-        Step::CallLost(_, _) => true,
-        Step::Timeout(_) => false,
-        Step::Crash(_) => false,
-        Step::Restart(_) => false,
-    }
+    matches!(s, Step::Call(_, _) | Step::CallLost(_, _))
 }
 
 // A step that makes no store call; one that makes a call never comes here. It leaves the store as it was, and closes no log.
@@ -128,8 +118,7 @@ pub fn without_call(fields: &mut [u32; FIELDS], all: u32, s: Step) -> Outcome
         Step::Deliver(m, p) => deliver(fields, all, m, p - 1),
         Step::Copy(m, p) => deliver_copy(fields, all, m, p - 1),
         Step::Lose(m, p) => lose(fields, m, p - 1),
-        Step::Call(_, _) => Outcome::Idle,
-        Step::CallLost(_, _) => Outcome::Idle,
+        Step::Call(_, _) | Step::CallLost(_, _) => Outcome::Idle,
         Step::Timeout(p) => timeout(fields, all, p),
         Step::Crash(p) => crash(fields, all, p),
         Step::Restart(p) => restart(fields, all, p),

@@ -4,7 +4,7 @@
 
 ghost use Rattle.std.specs.Prelude.{◌≡◌, ◌+◌, ◌-◌, ◌≤◌, ◌<◌, length, take, drop, IfOk, OnErr};
 ghost use Rattle.std.specs.Io.KnownBytes.{IsAtEnd};
-ghost use Rattle.frame.specs.Frame.{LinesOf, FramesThen, longest_report, longest_line, longest_frame};
+ghost use Rattle.frame.specs.Frame.{LinesOf, FramesThen, longest_frame};
 
 use frame::{FRAME, LINE, REPORT, mark_frames};
 use std::io;
@@ -14,6 +14,10 @@ use std::io::Read;
 const INPUT: usize = 8 * FRAME;
 
 const OUTPUT: usize = 8 * LINE;
+
+type Report = [u8; REPORT];
+
+type Output = [u8; OUTPUT];
 
 // Writes out the lines of these frames. Answers how many bytes the frames have, so that a caller passes over just what is written.
 fn write_lines(rt: &impl Print, frames: &[u8], lines: &[u8]) -> io::Result<usize>
@@ -28,22 +32,18 @@ fn write_lines(rt: &impl Print, frames: &[u8], lines: &[u8]) -> io::Result<usize
 fn mark_whole(
     rt: &impl Print,
     input: &[u8],
-    report: &mut [u8],
-    output: &mut [u8],
+    report: &mut Report,
+    output: &mut Output,
 ) -> io::Result<usize>
-    requires { (longest_report ≤ length report.old) × (longest_line ≤ length output.old) }
     ensures { IfOk result (λ n. (n ≤ length input.now) × FramesThen input.now (drop n input.now)) }
 {
-    let mut at: usize = 0;
+    let mut at = 0;
     'parts: loop {
         let marked = mark_frames(&input[at..], report, output);
-        let used = marked.used;
-        if used == 0 {
+        if marked.used == 0 {
             return Ok(at);
         }
-        let end = at + used;
-        let filled = marked.filled;
-        at = at + write_lines(rt, &input[at..end], &output[..filled])?;
+        at += write_lines(rt, &input[at..at + marked.used], &output[..marked.filled])?;
     }
 }
 
@@ -52,11 +52,8 @@ fn keep_rest(input: &mut [u8], from: usize, end: usize) -> usize
     requires { (from ≤ end) × (end ≤ length input.old) }
     ensures { (result ≡ end - from) × (take result input.new ≡ take result (drop from input.old)) }
 {
-    let kept = end - from;
-    for i in 0..kept {
-        input[i] = input[from + i];
-    }
-    kept
+    input.copy_within(from..end, 0);
+    end - from
 }
 
 // Marks what was read so far: it is whole frames, and then what is kept. Answers how much that is. After an error what was read is as it was.
@@ -64,10 +61,10 @@ fn mark_read(
     rt: &impl Print,
     input: &mut [u8],
     end: usize,
-    report: &mut [u8],
-    output: &mut [u8],
+    report: &mut Report,
+    output: &mut Output,
 ) -> io::Result<usize>
-    requires { (end ≤ length input.old) × (longest_report ≤ length report.old) × (longest_line ≤ length output.old) }
+    requires { end ≤ length input.old }
     ensures ok { IfOk result (λ n. (n < longest_frame) × FramesThen (take end input.old) (take n input.new)) }
     ensures err { OnErr result (input.new ≡ input.old) }
 {
@@ -89,13 +86,11 @@ fn read_more<R: Read>(reader: &mut R, input: &mut [u8], kept: usize) -> io::Resu
 fn replay(
     rt: &impl Print,
     reader: &mut impl Read,
-    input: &mut [u8],
-    report: &mut [u8],
-    output: &mut [u8],
-) -> io::Result<()>
-    requires { (longest_frame ≤ length input.old) × (longest_report ≤ length report.old) × (longest_line ≤ length output.old) }
-{
-    let mut kept: usize = 0;
+    input: &mut [u8; INPUT],
+    report: &mut Report,
+    output: &mut Output,
+) -> io::Result<()> {
+    let mut kept = 0;
     for _ in 0..u64::MAX {
         let got = read_more(reader, input, kept)?;
         if got == 0 {

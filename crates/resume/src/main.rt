@@ -5,11 +5,11 @@ ghost use Rattle.std.specs.Prelude.{◌≡◌, ◌+◌, ◌≤◌, ◌<◌, leng
 ghost use Rattle.text.specs.Put.{Put};
 ghost use Rattle.schedule.specs.Record.{longest};
 ghost use Rattle.start.specs.Start.{read_from};
-ghost use Rattle.frame.specs.Frame.{longest_report, longest_frame};
-ghost use Rattle.resume.specs.Resume.{tail_text, resumed_text, Resumes, tail_line, longest_resumed};
+ghost use Rattle.frame.specs.Frame.{longest_frame};
+ghost use Rattle.resume.specs.Resume.{tail_text, resumed_text, Resumes, tail_line};
 
 use form::TAIL;
-use frame::{FRAME, Frame, REPORT, first_frame};
+use frame::{FRAME, REPORT, first_frame};
 use input::read_full;
 use listing::{LONGEST_TEXT, list_from};
 use marker::run_from;
@@ -17,7 +17,6 @@ use schedule::LONGEST;
 use std::io;
 use std::io::Read;
 use text::{put, put_hexadecimal};
-use writer::Written;
 
 // Room for the line with a tail.
 const TAIL_LINE: usize = 5 + 2 * TAIL + 1;
@@ -25,39 +24,37 @@ const TAIL_LINE: usize = 5 + 2 * TAIL + 1;
 // Room for the longest text.
 const TEXT: usize = LONGEST_TEXT + TAIL_LINE;
 
+type Report = [u8; REPORT];
+
+type Text = [u8; TEXT];
+
 // Puts the line with the tail after the steps at a place of the text; none where they are refused.
 fn put_tail_line(
     tail: &[u8],
     rest: &[u8],
-    report: &mut [u8],
+    report: &mut Report,
     text: &mut [u8],
     place: usize,
 ) -> usize
-    requires { (longest_report ≤ length report.old) × (place + tail_line ≤ length text.old) }
+    requires { place + tail_line ≤ length text.old }
     ensures { Put text.old place (tail_text tail.now (read_from tail.now rest.now)) result text.new }
 {
-    let ran = run_from(tail, rest, report);
-    match ran {
-        Written::Done(end) => {
-            let start = end - TAIL;
-            let word = put(text, place, b"tail ");
-            let digits = put_hexadecimal(text, word, &report[start..end]);
-            put(text, digits, b"\n")
-        }
-        Written::Refused(_, _) => place,
-    }
+    let Ok(end) = run_from(tail, rest, report) else {
+        return place;
+    };
+    let word = put(text, place, b"tail ");
+    let digits = put_hexadecimal(text, word, &report[end - TAIL..end]);
+    put(text, digits, b"\n")
 }
 
-// Puts all that is printed of the steps at the front of a text that has room for it. Answers its length.
-fn put_resumed(tail: &[u8], rest: &[u8], report: &mut [u8], text: &mut [u8]) -> usize
-    requires { (longest_report ≤ length report.old) × (longest_resumed ≤ length text.old) }
+// Puts all that is printed of the steps at the front of a text. Answers its length.
+fn put_resumed(tail: &[u8], rest: &[u8], report: &mut Report, text: &mut Text) -> usize
     ensures { (result ≤ length text.new) × (take result text.new ≡ resumed_text tail.now rest.now) }
 {
-    let listed = list_from(tail, rest, text);
-    match listed {
-        Written::Done(end) => put_tail_line(tail, rest, report, text, end),
+    match list_from(tail, rest, text) {
+        Ok(end) => put_tail_line(tail, rest, report, text, end),
         // That there is room rules this out.
-        Written::Refused(_, needed) => needed,
+        Err(refused) => refused.value,
     }
 }
 
@@ -69,10 +66,13 @@ fn write_resumed(rt: &impl Print, input: &[u8], text: &[u8]) -> io::Result<()>
 }
 
 // The tail stands in the first frame, and the steps after it.
-fn resume_input(rt: &impl Print, input: &[u8], report: &mut [u8], text: &mut [u8]) -> io::Result<()>
-    requires { (longest_report ≤ length report.old) × (longest_resumed ≤ length text.old) }
-{
-    let Frame::Whole(size) = first_frame(input) else {
+fn resume_input(
+    rt: &impl Print,
+    input: &[u8],
+    report: &mut Report,
+    text: &mut Text,
+) -> io::Result<()> {
+    let Some(size) = first_frame(input) else {
         return rt.write_all(b"incomplete frame\n");
     };
     let start = 2 + size;
@@ -80,16 +80,16 @@ fn resume_input(rt: &impl Print, input: &[u8], report: &mut [u8], text: &mut [u8
     write_resumed(rt, input, &text[..end])
 }
 
-// Reads until the buffer is full or the input ends. It has room for the longest frame and for more than the longest steps, so that what is too long is
-// refused.
+// Reads until the buffer is full or the input ends. It has room for the longest frame and for more than the longest steps, so that what is too long
+// is refused.
 fn resume(
     rt: &impl Print,
     reader: &mut impl Read,
     input: &mut [u8],
-    report: &mut [u8],
-    text: &mut [u8],
+    report: &mut Report,
+    text: &mut Text,
 ) -> io::Result<()>
-    requires { (longest_frame + longest < length input.old) × (longest_report ≤ length report.old) × (longest_resumed ≤ length text.old) }
+    requires { longest_frame + longest < length input.old }
 {
     let length = read_full(reader, input)?;
     resume_input(rt, &input[..length], report, text)

@@ -7,9 +7,11 @@ use Prim.Native.Nat.{ℕ, zero, suc, ◌+◌, ◌≤◌, ◌<◌}
 use native.Mathlib.Omega.{arith}
 use lib.ListN.{length, get_or, set}
 use lib.Seq.{get_or-set_same, get_or-set_other}
+use Rattle.std.specs.Prelude.{Option}
 use Rattle.mask.specs.Mask.{has, insert, remove, full}
 use Rattle.mask.proofs.Laws.{has_zero, has_insert_same, has_insert_other, has_remove_same, has_remove_other, has_full, has_beyond, full_lt}
 use Rattle.store.specs.Log.{empty, perform}
+use Rattle.message.specs.Message.{to}
 use Rattle.participant.specs.Participant
 use Rattle.coordinator.specs.Coordinator
 use Rattle.rules.specs.State.{participant_at, participant_of, log_of, message_place, mask_at, mask_of, in_flight, waiting}
@@ -17,7 +19,7 @@ use Rattle.rules.specs.Report.{moves, step_byte}
 use Rattle.rules.specs.Step.{take_out, idle, called, participant_to, participant_goes, coordinator_to, coordinator_goes, receive, participant_answered, participant_performed, participant_calls, coordinator_answered, coordinator_performed, coordinator_calls, calls, step}
 use Rattle.rules.specs.Actions.{NotDueStays, SameButMessages, OthersInFlight, Lost, CopyLikeDelivery, MessagesAsWritten, pending_call, CallMade, CallAsWritten, CallsAsWritten, ParticipantGoesTo, CoordinatorGoesTo, GoAsRuled, RestartsAsWritten}
 use Rattle.rules.specs.OneParty.{OthersStay}
-use Rattle.rules.specs.Types.{Logged, Performed, Message, Sent, Participant, Closing, Down, Transition, NotDue, To, Coordinator, CoordinatorTransition, Site, Release, Step, Start, Deliver, Copy, Lose, Timeout, Crash, Restart, Report}
+use Rattle.rules.specs.Types.{Logged, Message, Participant, Closing, Down, Transition, Coordinator, Site, Release, Step, Start, Deliver, Copy, Lose, Timeout, Crash, Restart, Report}
 use Rattle.rules.proofs.Cases.{crash_cases, restart_cases, reply_yes_cases, reply_abort_cases, coordinator_crash_cases, coordinator_restart_cases, enters_cases}
 use Rattle.rules.proofs.Due.{participant_due, coordinator_due, coordinator_leads, coordinator_goes_moves, enters_leads}
 use Rattle.rules.proofs.Messages.{same_message}
@@ -38,18 +40,18 @@ placed i p r l = ap (λ (x : Site). x.participant) (get_or-set_same r.sites i (r
 others_placed : (i : ℕ) (p : Participant) (r : Release) (k : ℕ) → suc i ≢ suc k → participant_at (set r.sites i (record { participant = p })) k ≡ participant_of r k
 others_placed i p r k ne = ap (λ (x : Site). x.participant) (get_or-set_other r.sites i k (record { participant = p }) waiting (λ e. ne (ap suc (sym e))))
 
-pub participant_only : (i : ℕ) (p : Participant) (s : Sent) (r : Release) → Only (suc i) r (participant_to i p s r).next
+pub participant_only : (i : ℕ) (p : Participant) (s : Option Message) (r : Release) → Only (suc i) r (participant_to i p s r).next
 unfolding participant_to
-participant_only i p Sent.Nothing r =
+participant_only i p Option.None r =
     record { others = record { same_n = refl; same_votes = refl; coordinator = λ ne. refl; participants = others_placed i p r }; store = refl; calls = refl }
-participant_only i p (Sent.Sends m) r =
+participant_only i p (Option.Some m) r =
     record { others = record { same_n = refl; same_votes = refl; coordinator = λ ne. refl; participants = others_placed i p r }; store = refl; calls = refl }
 
-pub coordinator_only : (c : Coordinator) (s : Sent) (r : Release) → Only 0 r (coordinator_to c s r).next
+pub coordinator_only : (c : Coordinator) (s : Option Message) (r : Release) → Only 0 r (coordinator_to c s r).next
 unfolding coordinator_to
-coordinator_only c Sent.Nothing r =
+coordinator_only c Option.None r =
     record { others = record { same_n = refl; same_votes = refl; coordinator = λ ne. absurd (ne refl); participants = λ k ne. refl }; store = refl; calls = refl }
-coordinator_only c (Sent.Sends m) r =
+coordinator_only c (Option.Some m) r =
     record { others = record { same_n = refl; same_votes = refl; coordinator = λ ne. absurd (ne refl); participants = λ k ne. refl }; store = refl; calls = refl }
 
 -- Messages. The masks stand in a list: the one of a message's type at place a; place b is the one that a broadcast fills
@@ -91,24 +93,24 @@ apart x m k i (inr h) f = inr (f h)
 
 -- Where the rules lead, and what is sent
 
-abbrev is_sent : Sent → Bool
-is_sent Sent.Nothing = false
-is_sent (Sent.Sends m) = true
+abbrev is_sent : Option Message → Bool
+is_sent Option.None = false
+is_sent (Option.Some m) = true
 
-abbrev message_or : Message → Sent → Message
-message_or k Sent.Nothing = k
-message_or k (Sent.Sends m) = m
+abbrev message_or : Message → Option Message → Message
+message_or k Option.None = k
+message_or k (Option.Some m) = m
 
-pub participant_goes_to : (i : ℕ) (p : Participant) (x : Sent) (r : Release) → ParticipantGoesTo i p x r (participant_to i p x r).next
+pub participant_goes_to : (i : ℕ) (p : Participant) (x : Option Message) (r : Release) → ParticipantGoesTo i p x r (participant_to i p x r).next
 unfolding participant_to
-participant_goes_to i p Sent.Nothing r =
+participant_goes_to i p Option.None r =
     record {
       state = λ l. placed i p r l;
       sent = λ m q. absurd (true≢false (sym (ap is_sent q)));
       others = λ m q. absurd (true≢false (sym (ap is_sent q)));
       nothing = λ q. refl;
     }
-participant_goes_to i p (Sent.Sends m) r =
+participant_goes_to i p (Option.Some m) r =
     record {
       state = λ l. placed i p r l;
       sent = λ k q l. rw (sym (ap (message_or m) q)) (sent (rw (sym (ap (message_or m) q)) at l));
@@ -116,15 +118,15 @@ participant_goes_to i p (Sent.Sends m) r =
       nothing = λ q. absurd (true≢false (ap is_sent q));
     }
   where
-    sent : message_place m < length r.messages → in_flight (participant_to i p (Sent.Sends m) r).next m i ≡ true
+    sent : message_place m < length r.messages → in_flight (participant_to i p (Option.Some m) r).next m i ≡ true
     sent l = ap (has i) (get_or-set_same r.messages (message_place m) _ 0 l) ∙ has_insert_same i (mask_of r m)
 
-    others : OthersInFlight m i r (participant_to i p (Sent.Sends m) r).next
+    others : OthersInFlight m i r (participant_to i p (Option.Some m) r).next
     others x k ne = others_kept (insert i) k r.messages (message_place m) (message_place x) (apart x m k i ne (λ d y. has_insert_other i k y d))
 
-coordinator_goes_to : (c : Coordinator) (x : Sent) (r : Release) → CoordinatorGoesTo c x r (coordinator_to c x r).next
+coordinator_goes_to : (c : Coordinator) (x : Option Message) (r : Release) → CoordinatorGoesTo c x r (coordinator_to c x r).next
 unfolding coordinator_to
-coordinator_goes_to c Sent.Nothing r =
+coordinator_goes_to c Option.None r =
     record {
       state = refl;
       sent = λ m q. absurd (true≢false (sym (ap is_sent q)));
@@ -132,7 +134,7 @@ coordinator_goes_to c Sent.Nothing r =
       others = λ m k q. absurd (true≢false (sym (ap is_sent q)));
       nothing = λ q. refl;
     }
-coordinator_goes_to c (Sent.Sends m) r =
+coordinator_goes_to c (Option.Some m) r =
     record {
       state = refl;
       sent = λ k q l. rw (sym (ap (message_or m) q)) (sent (rw (sym (ap (message_or m) q)) at l));
@@ -141,32 +143,32 @@ coordinator_goes_to c (Sent.Sends m) r =
       nothing = λ q. absurd (true≢false (ap is_sent q));
     }
   where
-    sent : message_place m < length r.messages → (i : ℕ) → i < r.n → in_flight (coordinator_to c (Sent.Sends m) r).next m i ≡ true
+    sent : message_place m < length r.messages → (i : ℕ) → i < r.n → in_flight (coordinator_to c (Option.Some m) r).next m i ≡ true
     sent l i h = ap (has i) (get_or-set_same r.messages (message_place m) _ 0 l) ∙ has_full i r.n h
 
-    beyond : message_place m < length r.messages → (i : ℕ) → r.n ≤ i → in_flight (coordinator_to c (Sent.Sends m) r).next m i ≡ false
+    beyond : message_place m < length r.messages → (i : ℕ) → r.n ≤ i → in_flight (coordinator_to c (Option.Some m) r).next m i ≡ false
     beyond l i h = ap (has i) (get_or-set_same r.messages (message_place m) _ 0 l) ∙ has_beyond r.n i (full r.n) h (full_lt r.n)
 
-goes_to : (i : ℕ) (t : Transition) (p : Participant) (x : Sent) (r : Release) → t ≡ To p x → ParticipantGoesTo i p x r (participant_goes i t r).next
+goes_to : (i : ℕ) (t : Transition Participant) (p : Participant) (x : Option Message) (r : Release) → t ≡ Option.Some (p, x) → ParticipantGoesTo i p x r (participant_goes i t r).next
 goes_to i t p x r q = rw q (participant_goes_to i p x r)
 
-coordinator_goes_lem : (t : CoordinatorTransition) (c : Coordinator) (x : Sent) (r : Release) → t ≡ CoordinatorTransition.To c x → CoordinatorGoesTo c x r (coordinator_goes t r).next
+coordinator_goes_lem : (t : Transition Coordinator) (c : Coordinator) (x : Option Message) (r : Release) → t ≡ Option.Some (c, x) → CoordinatorGoesTo c x r (coordinator_goes t r).next
 coordinator_goes_lem t c x r q = rw q (coordinator_goes_to c x r)
 
 -- a call that was made changes no message
-participant_after_call : (i q j : ℕ) (l : Logged) (p : Participant) (x : Sent) (r t : Release) → ParticipantGoesTo i p x (called q j l.log r) t → ParticipantGoesTo i p x r t
+participant_after_call : (i q j : ℕ) (l : Logged) (p : Participant) (x : Option Message) (r t : Release) → ParticipantGoesTo i p x (called q j l.log r) t → ParticipantGoesTo i p x r t
 participant_after_call i q j l p x r t g = record { state = g.state; sent = g.sent; others = g.others; nothing = g.nothing }
 
-coordinator_after_call : (q j : ℕ) (l : Logged) (c : Coordinator) (x : Sent) (r t : Release) → CoordinatorGoesTo c x (called q j l.log r) t → CoordinatorGoesTo c x r t
+coordinator_after_call : (q j : ℕ) (l : Logged) (c : Coordinator) (x : Option Message) (r t : Release) → CoordinatorGoesTo c x (called q j l.log r) t → CoordinatorGoesTo c x r t
 coordinator_after_call q j l c x r t g = record { state = g.state; sent = g.sent; nobody_else = g.nobody_else; others = g.others; nothing = g.nothing }
 
-answer_goes : (r : Release) (i j : ℕ) (l : Logged) (p : Participant) (x : Sent) → perform (Participant.pending i (participant_of r i) j) (log_of r j) ≡ Performed.Done l
-    → Participant.on_answer (full r.n) i (participant_of r i) j l.answer ≡ To p x → ParticipantGoesTo i p x r (participant_calls true i j r).next
+answer_goes : (r : Release) (i j : ℕ) (l : Logged) (p : Participant) (x : Option Message) → perform (Participant.pending i (participant_of r i) j) (log_of r j) ≡ Option.Some l
+    → Participant.on_answer (full r.n) i (participant_of r i) j l.answer ≡ Option.Some (p, x) → ParticipantGoesTo i p x r (participant_calls true i j r).next
 unfolding participant_calls
 answer_goes r i j l p x d a = rw d (rw a (participant_after_call i (suc i) j l p x r _ (participant_goes_to i p x (called (suc i) j l.log r))))
 
-coordinator_answer_goes : (r : Release) (j : ℕ) (l : Logged) (c : Coordinator) (x : Sent) → perform (Coordinator.pending r.coordinator j) (log_of r j) ≡ Performed.Done l
-    → Coordinator.on_answer (full r.n) r.coordinator j l.answer ≡ CoordinatorTransition.To c x → CoordinatorGoesTo c x r (coordinator_calls true j r).next
+coordinator_answer_goes : (r : Release) (j : ℕ) (l : Logged) (c : Coordinator) (x : Option Message) → perform (Coordinator.pending r.coordinator j) (log_of r j) ≡ Option.Some l
+    → Coordinator.on_answer (full r.n) r.coordinator j l.answer ≡ Option.Some (c, x) → CoordinatorGoesTo c x r (coordinator_calls true j r).next
 unfolding coordinator_calls
 coordinator_answer_goes r j l c x d a = rw d (rw a (coordinator_after_call 0 j l c x r _ (coordinator_goes_to c x (called 0 j l.log r))))
 
@@ -174,11 +176,11 @@ pub go_as_ruled : GoAsRuled
 go_as_ruled r =
     record {
       start = λ c x q. coordinator_goes_lem (Coordinator.on_start r.coordinator) c x r q;
-      request = λ i h. rw h (participant_goes_to i _ Sent.Nothing r);
+      request = λ i h. rw h (participant_goes_to i _ Option.None r);
       reply_yes = λ i c x h q. rw h (coordinator_goes_lem (Coordinator.on_reply_yes (full r.n) i r.coordinator) c x r q);
       reply_abort = λ i c x h q. rw h (coordinator_goes_lem (Coordinator.on_reply_abort r.coordinator) c x r q);
-      commit = λ i h. rw h (participant_goes_to i _ Sent.Nothing r);
-      abort = λ i h. rw h (participant_goes_to i _ Sent.Nothing r);
+      commit = λ i h. rw h (participant_goes_to i _ Option.None r);
+      abort = λ i h. rw h (participant_goes_to i _ Option.None r);
       answer = answer_goes r;
       coordinator_answer = coordinator_answer_goes r;
       timeout = λ i p x q. goes_to i (Participant.on_timeout (full r.n) i (participant_of r i)) p x r q;
@@ -221,21 +223,21 @@ module _ (r : Release) (m : Message) (i : ℕ) (h : in_flight r m i ≡ true) wh
       }
 
   -- a participant goes to a state
-  participant_like : (p : Participant) → CopyLike (participant_to i p Sent.Nothing)
+  participant_like : (p : Participant) → CopyLike (participant_to i p Option.None)
   unfolding participant_to
   participant_like p =
-      silent_like (participant_to i p Sent.Nothing) (λ t. refl)
+      silent_like (participant_to i p Option.None) (λ t. refl)
       (record { same_n = refl; same_votes = refl; coordinator = refl; sites = refl; store = refl; calls = refl }) refl
 
   -- the coordinator goes to a state, with nothing sent, or with another message sent to all
 
-  coordinator_like : (c : Coordinator) → CopyLike (coordinator_goes (Coordinator.to c))
+  coordinator_like : (c : Coordinator) → CopyLike (coordinator_goes (to c))
   unfolding coordinator_to
   coordinator_like c =
-      silent_like (coordinator_goes (Coordinator.to c)) (λ t. refl)
+      silent_like (coordinator_goes (to c)) (λ t. refl)
       (record { same_n = refl; same_votes = refl; coordinator = refl; sites = refl; store = refl; calls = refl }) refl
 
-  broadcast_like : (c : Coordinator) (b : Message) → m ≢ b → CopyLike (coordinator_goes (CoordinatorTransition.To c (Sent.Sends b)))
+  broadcast_like : (c : Coordinator) (b : Message) → m ≢ b → CopyLike (coordinator_goes (Option.Some (c, (Option.Some b))))
   unfolding coordinator_to
   broadcast_like c b ne =
       record {
@@ -275,37 +277,37 @@ messages_as_written r m i h = (lost r m i h, copied r m i h (receive_like r m i 
 -- The calls of a party: what holds of each way they end, with the answer heard and with it lost, holds of them
 
 module _ (P : (Bool → Report) → Type 0) (r : Release) where
-  pub participant_calls_lem : (i j : ℕ) → P (λ heard. participant_performed heard i j Performed.Refused r) → ((x : Logged) → P (λ heard. participant_answered heard i j x NotDue r))
-      → ((x : Logged) (p : Participant) (s : Sent) → perform (Participant.pending i (participant_of r i) j) (log_of r j) ≡ Performed.Done x → P (λ heard. participant_answered heard i j x (To p s) r))
+  pub participant_calls_lem : (i j : ℕ) → P (λ heard. participant_performed heard i j Option.None r) → ((x : Logged) → P (λ heard. participant_answered heard i j x Option.None r))
+      → ((x : Logged) (p : Participant) (s : Option Message) → perform (Participant.pending i (participant_of r i) j) (log_of r j) ≡ Option.Some x → P (λ heard. participant_answered heard i j x (Option.Some (p, s)) r))
       → P (λ heard. participant_calls heard i j r)
   unfolding participant_calls
   participant_calls_lem i j refused not-due due = performed (perform (Participant.pending i (participant_of r i) j) (log_of r j)) refl
     where
-      answered : (x : Logged) (t : Transition) → perform (Participant.pending i (participant_of r i) j) (log_of r j) ≡ Performed.Done x → P (λ heard. participant_answered heard i j x t r)
-      answered x NotDue q = not-due x
-      answered x (To p s) q = due x p s q
+      answered : (x : Logged) (t : Transition Participant) → perform (Participant.pending i (participant_of r i) j) (log_of r j) ≡ Option.Some x → P (λ heard. participant_answered heard i j x t r)
+      answered x Option.None q = not-due x
+      answered x (Option.Some (p, s)) q = due x p s q
 
-      performed : (y : Performed) → perform (Participant.pending i (participant_of r i) j) (log_of r j) ≡ y → P (λ heard. participant_performed heard i j y r)
-      performed Performed.Refused q = refused
-      performed (Performed.Done x) q = answered x (Participant.on_answer (full r.n) i (participant_of r i) j x.answer) q
+      performed : (y : Option Logged) → perform (Participant.pending i (participant_of r i) j) (log_of r j) ≡ y → P (λ heard. participant_performed heard i j y r)
+      performed Option.None q = refused
+      performed (Option.Some x) q = answered x (Participant.on_answer (full r.n) i (participant_of r i) j x.answer) q
 
-  pub coordinator_calls_lem : (j : ℕ) → P (λ heard. coordinator_performed heard j Performed.Refused r) → ((x : Logged) → P (λ heard. coordinator_answered heard j x CoordinatorTransition.NotDue r))
-      → ((x : Logged) (c : Coordinator) (s : Sent) → perform (Coordinator.pending r.coordinator j) (log_of r j) ≡ Performed.Done x → P (λ heard. coordinator_answered heard j x (CoordinatorTransition.To c s) r))
+  pub coordinator_calls_lem : (j : ℕ) → P (λ heard. coordinator_performed heard j Option.None r) → ((x : Logged) → P (λ heard. coordinator_answered heard j x Option.None r))
+      → ((x : Logged) (c : Coordinator) (s : Option Message) → perform (Coordinator.pending r.coordinator j) (log_of r j) ≡ Option.Some x → P (λ heard. coordinator_answered heard j x (Option.Some (c, s)) r))
       → P (λ heard. coordinator_calls heard j r)
   unfolding coordinator_calls
   coordinator_calls_lem j refused not-due due = performed (perform (Coordinator.pending r.coordinator j) (log_of r j)) refl
     where
-      answered : (x : Logged) (t : CoordinatorTransition) → perform (Coordinator.pending r.coordinator j) (log_of r j) ≡ Performed.Done x → P (λ heard. coordinator_answered heard j x t r)
-      answered x CoordinatorTransition.NotDue q = not-due x
-      answered x (CoordinatorTransition.To c s) q = due x c s q
+      answered : (x : Logged) (t : Transition Coordinator) → perform (Coordinator.pending r.coordinator j) (log_of r j) ≡ Option.Some x → P (λ heard. coordinator_answered heard j x t r)
+      answered x Option.None q = not-due x
+      answered x (Option.Some (c, s)) q = due x c s q
 
-      performed : (y : Performed) → perform (Coordinator.pending r.coordinator j) (log_of r j) ≡ y → P (λ heard. coordinator_performed heard j y r)
-      performed Performed.Refused q = refused
-      performed (Performed.Done x) q = answered x (Coordinator.on_answer (full r.n) r.coordinator j x.answer) q
+      performed : (y : Option Logged) → perform (Coordinator.pending r.coordinator j) (log_of r j) ≡ y → P (λ heard. coordinator_performed heard j y r)
+      performed Option.None q = refused
+      performed (Option.Some x) q = answered x (Coordinator.on_answer (full r.n) r.coordinator j x.answer) q
 
 -- Store calls
 
-called_made : (r : Release) (p j : ℕ) (x : Logged) → perform (pending_call r p j) (log_of r j) ≡ Performed.Done x → CallMade r p (suc j) (called p j x.log r)
+called_made : (r : Release) (p j : ℕ) (x : Logged) → perform (pending_call r p j) (log_of r j) ≡ Option.Some x → CallMade r p (suc j) (called p j x.log r)
 called_made r p j x q =
     record {
       place = j;
@@ -336,7 +338,7 @@ pub calls_as_written : CallsAsWritten
 calls_as_written r zero zero = no_call r 0 0 (idle r) refl
 calls_as_written r (suc i) zero = no_call r (suc i) 0 (idle r) refl
 calls_as_written r zero (suc j) =
-    coordinator_calls_lem (CallLike r 0 (suc j)) r j (no_call r 0 (suc j) (coordinator_performed true j Performed.Refused r) refl) (λ x. no_call r 0 (suc j) (coordinator_answered true j x CoordinatorTransition.NotDue r) refl)
+    coordinator_calls_lem (CallLike r 0 (suc j)) r j (no_call r 0 (suc j) (coordinator_performed true j Option.None r) refl) (λ x. no_call r 0 (suc j) (coordinator_answered true j x Option.None r) refl)
     (λ x c s q.
     record {
       due_alike = coordinator_due c s (called 0 j x.log r);
@@ -347,7 +349,7 @@ calls_as_written r zero (suc j) =
       answer_lost = λ d. record { same_n = refl; same_votes = refl; coordinator = refl; sites = refl; messages = refl; reported = refl };
     })
 calls_as_written r (suc i) (suc j) =
-    participant_calls_lem (CallLike r (suc i) (suc j)) r i j (no_call r (suc i) (suc j) (participant_performed true i j Performed.Refused r) refl) (λ x. no_call r (suc i) (suc j) (participant_answered true i j x NotDue r) refl)
+    participant_calls_lem (CallLike r (suc i) (suc j)) r i j (no_call r (suc i) (suc j) (participant_performed true i j Option.None r) refl) (λ x. no_call r (suc i) (suc j) (participant_answered true i j x Option.None r) refl)
     (λ x p s q.
     record {
       due_alike = participant_due i p s (called (suc i) j x.log r);
@@ -362,32 +364,32 @@ calls_as_written r (suc i) (suc j) =
 
 crashed : (r : Release) (i : ℕ) → i < length r.sites → participant_of (step r (Crash (suc i))).next i ≡ Down
 crashed r i l =
-    crash_cases (λ p t. participant_of r i ≡ p → participant_of (participant_goes i t r).next i ≡ Down) (λ p q. (participant_goes_to i Down Sent.Nothing r).state l) (λ q. q) (participant_of r i) refl
+    crash_cases (λ p t. participant_of r i ≡ p → participant_of (participant_goes i t r).next i ≡ Down) (λ p q. (participant_goes_to i Down Option.None r).state l) (λ q. q) (participant_of r i) refl
 
 coordinator_crashed : (r : Release) → (step r (Crash 0)).next.coordinator ≡ Coordinator.Down
 coordinator_crashed r =
-    coordinator_crash_cases (λ c t. r.coordinator ≡ c → (coordinator_goes t r).next.coordinator ≡ Coordinator.Down) (λ c q. (coordinator_goes_to Coordinator.Down Sent.Nothing r).state) (λ q. q)
+    coordinator_crash_cases (λ c t. r.coordinator ≡ c → (coordinator_goes t r).next.coordinator ≡ Coordinator.Down) (λ c q. (coordinator_goes_to Coordinator.Down Option.None r).state) (λ q. q)
     r.coordinator refl
 
 restarted : (r : Release) (i : ℕ) → i < length r.sites → moves (step r (Restart (suc i))).outcome ≡ true → participant_of (step r (Restart (suc i))).next i ≡ Closing
 restarted r i l =
-    restart_cases (λ p t. moves (participant_goes i t r).outcome ≡ true → participant_of (participant_goes i t r).next i ≡ Closing) (λ d. (participant_goes_to i Closing Sent.Nothing r).state l)
+    restart_cases (λ p t. moves (participant_goes i t r).outcome ≡ true → participant_of (participant_goes i t r).next i ≡ Closing) (λ d. (participant_goes_to i Closing Option.None r).state l)
     (λ p d. absurd (true≢false (sym d))) (participant_of r i)
 
 coordinator_restarted : (r : Release) → moves (step r (Restart 0)).outcome ≡ true → (step r (Restart 0)).next.coordinator ≡ Coordinator.Retired
 coordinator_restarted r =
     coordinator_restart_cases (λ t. moves (coordinator_goes t r).outcome ≡ true → (coordinator_goes t r).next.coordinator ≡ Coordinator.Retired)
-    (λ d. (coordinator_goes_to Coordinator.Retired Sent.Nothing r).state) (λ d. absurd (true≢false (sym d))) r.coordinator
+    (λ d. (coordinator_goes_to Coordinator.Retired Option.None r).state) (λ d. absurd (true≢false (sym d))) r.coordinator
 
 -- nothing is sent, and nothing taken
 
 crash_silent : (r : Release) (p : ℕ) → (step r (Crash p)).next.messages ≡ r.messages
-crash_silent r zero = coordinator_crash_cases (λ c t. (coordinator_goes t r).next.messages ≡ r.messages) (λ c. (coordinator_goes_to Coordinator.Down Sent.Nothing r).nothing refl) refl r.coordinator
-crash_silent r (suc i) = crash_cases (λ p t. (participant_goes i t r).next.messages ≡ r.messages) (λ p. (participant_goes_to i Down Sent.Nothing r).nothing refl) refl (participant_of r i)
+crash_silent r zero = coordinator_crash_cases (λ c t. (coordinator_goes t r).next.messages ≡ r.messages) (λ c. (coordinator_goes_to Coordinator.Down Option.None r).nothing refl) refl r.coordinator
+crash_silent r (suc i) = crash_cases (λ p t. (participant_goes i t r).next.messages ≡ r.messages) (λ p. (participant_goes_to i Down Option.None r).nothing refl) refl (participant_of r i)
 
 restart_silent : (r : Release) (p : ℕ) → (step r (Restart p)).next.messages ≡ r.messages
-restart_silent r zero = coordinator_restart_cases (λ t. (coordinator_goes t r).next.messages ≡ r.messages) ((coordinator_goes_to Coordinator.Retired Sent.Nothing r).nothing refl) refl r.coordinator
-restart_silent r (suc i) = restart_cases (λ p t. (participant_goes i t r).next.messages ≡ r.messages) ((participant_goes_to i Closing Sent.Nothing r).nothing refl) (λ p. refl) (participant_of r i)
+restart_silent r zero = coordinator_restart_cases (λ t. (coordinator_goes t r).next.messages ≡ r.messages) ((coordinator_goes_to Coordinator.Retired Option.None r).nothing refl) refl r.coordinator
+restart_silent r (suc i) = restart_cases (λ p t. (participant_goes i t r).next.messages ≡ r.messages) ((participant_goes_to i Closing Option.None r).nothing refl) (λ p. refl) (participant_of r i)
 
 pub restarts_as_written : RestartsAsWritten
 restarts_as_written r =
@@ -404,15 +406,15 @@ restarts_as_written r =
 
 -- a delivery is always due
 pub receive_moves : (m : Message) (i : ℕ) (r : Release) → moves (receive m i r).outcome ≡ true
-receive_moves Message.Request i r = participant_due i _ Sent.Nothing r
+receive_moves Message.Request i r = participant_due i _ Option.None r
 receive_moves Message.ReplyYes i r =
     coordinator_goes_moves (Coordinator.on_reply_yes (full r.n) i r.coordinator) r
     ∙ reply_yes_cases (λ c t. coordinator_leads t ≡ true) (full r.n) i
     (λ h. enters_leads (Coordinator.unless_full (full r.n) (insert i h) (Coordinator.Waiting (insert i h)))) (λ c. refl) r.coordinator
 receive_moves Message.ReplyAbort i r =
     coordinator_goes_moves (Coordinator.on_reply_abort r.coordinator) r ∙ reply_abort_cases (λ c t. coordinator_leads t ≡ true) (λ h. refl) (λ c. refl) r.coordinator
-receive_moves Message.Commit i r = participant_due i _ Sent.Nothing r
-receive_moves Message.Abort i r = participant_due i _ Sent.Nothing r
+receive_moves Message.Commit i r = participant_due i _ Option.None r
+receive_moves Message.Abort i r = participant_due i _ Option.None r
 
 abbrev Stays : Release → Report → Type 0
 Stays r t = moves t.outcome ≡ false → t ≡ idle r
@@ -420,13 +422,13 @@ Stays r t = moves t.outcome ≡ false → t ≡ idle r
 due_stays : (r : Release) (t : Report) → moves t.outcome ≡ true → Stays r t
 due_stays r t d q = absurd (true≢false (sym d ∙ q))
 
-goes_stays : (i : ℕ) (t : Transition) (r : Release) → Stays r (participant_goes i t r)
-goes_stays i NotDue r = λ q. refl
-goes_stays i (To p s) r = due_stays r _ (participant_due i p s r)
+goes_stays : (i : ℕ) (t : Transition Participant) (r : Release) → Stays r (participant_goes i t r)
+goes_stays i Option.None r = λ q. refl
+goes_stays i (Option.Some (p, s)) r = due_stays r _ (participant_due i p s r)
 
-coordinator_stays : (t : CoordinatorTransition) (r : Release) → Stays r (coordinator_goes t r)
-coordinator_stays CoordinatorTransition.NotDue r = λ q. refl
-coordinator_stays (CoordinatorTransition.To c s) r = due_stays r _ (coordinator_due c s r)
+coordinator_stays : (t : Transition Coordinator) (r : Release) → Stays r (coordinator_goes t r)
+coordinator_stays Option.None r = λ q. refl
+coordinator_stays (Option.Some (c, s)) r = due_stays r _ (coordinator_due c s r)
 
 flight_stays : (b : Bool) (t : Report) (r : Release) → moves t.outcome ≡ true → Stays r (cond b t (idle r))
 flight_stays true t r d = due_stays r t d

@@ -5,6 +5,7 @@ use mathlib.Core.Bool.{Bool, true, false, false≢true, cond, not}
 use Prim.Native.Nat.{ℕ, suc, ◌≤◌}
 use native.Mathlib.Omega.{arith}
 use lib.Dec.{eqb, lit≤}
+use Rattle.std.specs.Prelude.{Option}
 use Rattle.number.specs.Numbering.{Inverse}
 use Rattle.number.proofs.Laws.{inverse, and_left, and_right}
 use Rattle.mask.specs.Mask.{full}
@@ -16,7 +17,7 @@ use Rattle.rules.specs.State.{participant_of, log_of}
 use Rattle.rules.specs.Report.{outcome_number, outcome_of, known, coordinator_known, learnt, closes, report_byte, outcome_in, closed_in}
 use Rattle.rules.specs.Step.{called, take_out, participant_to, coordinator_to, step}
 use Rattle.rules.specs.Closed.{ClosedBytesHold, ByteSays}
-use Rattle.rules.specs.Types.{LogRecord, None, Yes, Abort, Commit, LogPair, Call, Logged, Performed, Participant, RecordingAbort, Transition, NotDue, To, Sent, Coordinator, CoordinatorTransition, Step, Release, Outcome, Report}
+use Rattle.rules.specs.Types.{LogRecord, None, Yes, Abort, Commit, LogPair, Call, Logged, Participant, RecordingAbort, Transition, Message, Coordinator, Step, Release, Outcome, Report}
 use Rattle.rules.proofs.Cases.{answer_cases, coordinator_answer_cases, enters_cases}
 use Rattle.rules.proofs.Causes.{Cause, ParticipantCall, CoordinatorCall, idles, starts, delivers, copies, loses, answered, lost, coordinator_answered_lem, coordinator_lost, times_out, crashes, restarts, coordinator_times_out, coordinator_crashes, coordinator_restarts, cause}
 use Rattle.rules.proofs.Closed.{to_closed, coordinator_closed, receive_closed}
@@ -54,9 +55,9 @@ byte_says t = byte_back t.outcome t.closed
 -- A call that writes an abort into another's log, and is heard, gives its party the decision
 
 -- a participant that hears an abort, and was not recording one, learns it
-abbrev Learns : Participant → LogRecord → Transition → Type 0
-Learns p r NotDue = Unit {0}
-Learns p r (To q x) = p ≢ RecordingAbort → is_abort r ≡ true → learnt (known p) (known q) ≡ Outcome.Abort
+abbrev Learns : Participant → LogRecord → Transition Participant → Type 0
+Learns p r Option.None = Unit {0}
+Learns p r (Option.Some (q, x)) = p ≢ RecordingAbort → is_abort r ≡ true → learnt (known p) (known q) ≡ Outcome.Abort
 
 answer_learns : (all i j : ℕ) (p : Participant) (r : LogRecord) → Learns p r (Participant.on_answer all i p j r)
 answer_learns all i j p r =
@@ -76,15 +77,15 @@ answer_learns all i j p r =
 
 -- one that is recording an abort writes no first record
 
-abbrev Unwritten : Performed → Type 0
-Unwritten Performed.Refused = Unit {0}
-Unwritten (Performed.Done x) = x.wrote ≡ false
+abbrev Unwritten : Option Logged → Type 0
+Unwritten Option.None = Unit {0}
+Unwritten (Option.Some x) = x.wrote ≡ false
 
-recording_unwritten : (b : Bool) (l : LogPair) → Unwritten (perform (cond b (Call.Log Abort) Call.None) l)
+recording_unwritten : (b : Bool) (l : LogPair) → Unwritten (perform (cond b (Option.Some (Call.Log Abort)) Option.None) l)
 recording_unwritten true l = log_cases Unwritten Abort l tt refl
 recording_unwritten false l = tt
 
-not_recording : (i j : ℕ) (p : Participant) (l : LogPair) (x : Logged) → perform (Participant.pending i p j) l ≡ Performed.Done x → x.wrote ≡ true → p ≢ RecordingAbort
+not_recording : (i j : ℕ) (p : Participant) (l : LogPair) (x : Logged) → perform (Participant.pending i p j) l ≡ Option.Some x → x.wrote ≡ true → p ≢ RecordingAbort
 not_recording i j p l x q w e =
     let u : Unwritten (perform (Participant.pending i p j) l) =
     subst (λ (z : Participant). Unwritten (perform (Participant.pending i z j) l)) (sym e) (recording_unwritten (eqb j i) l) in
@@ -92,9 +93,9 @@ not_recording i j p l x q w e =
 
 -- the coordinator learns it
 
-abbrev CoordinatorLearns : LogRecord → Coordinator → CoordinatorTransition → Type 0
-CoordinatorLearns r c CoordinatorTransition.NotDue = Unit {0}
-CoordinatorLearns r c (CoordinatorTransition.To d x) = is_abort r ≡ true → learnt (coordinator_known c) (coordinator_known d) ≡ Outcome.Abort
+abbrev CoordinatorLearns : LogRecord → Coordinator → Transition Coordinator → Type 0
+CoordinatorLearns r c Option.None = Unit {0}
+CoordinatorLearns r c (Option.Some (d, x)) = is_abort r ≡ true → learnt (coordinator_known c) (coordinator_known d) ≡ Outcome.Abort
 
 heard_learns : (all h k : ℕ) (r : LogRecord) → CoordinatorLearns r (Coordinator.Terminating h) (Coordinator.on_heard all k r)
 heard_learns all h k None = tt
@@ -119,11 +120,11 @@ by_same {s} b e = subst (ClosedBy s) (sym e) b
 unclosed : {s : Step} {o : Outcome} {b : Bool} → b ≡ false → b ≡ true → ClosedBy s o
 unclosed p q = absurd (false≢true (sym p ∙ q))
 
-to_outcome : (i : ℕ) (p : Participant) (x : Sent) (r : Release) → (participant_to i p x r).outcome ≡ learnt (known (participant_of r i)) (known p)
+to_outcome : (i : ℕ) (p : Participant) (x : Option Message) (r : Release) → (participant_to i p x r).outcome ≡ learnt (known (participant_of r i)) (known p)
 unfolding participant_to
 to_outcome i p x r = refl
 
-coordinator_outcome : (c : Coordinator) (x : Sent) (r : Release) → (coordinator_to c x r).outcome ≡ learnt (coordinator_known r.coordinator) (coordinator_known c)
+coordinator_outcome : (c : Coordinator) (x : Option Message) (r : Release) → (coordinator_to c x r).outcome ≡ learnt (coordinator_known r.coordinator) (coordinator_known c)
 unfolding coordinator_to
 coordinator_outcome c x r = refl
 
@@ -131,14 +132,14 @@ coordinator_outcome c x r = refl
 wrote_it : (p j : ℕ) (l : Logged) → closes p j l ≡ true → (l.wrote ≡ true) × (is_abort l.answer ≡ true)
 wrote_it p j l e = let w = and_left (wrote_abort l) (not (eqb p (suc j))) e in (and_left l.wrote (is_abort l.answer) w, and_right l.wrote (is_abort l.answer) w)
 
-heard_aborts : (r : Release) (i j : ℕ) (l : Logged) (p : Participant) (x : Sent) → ParticipantCall r i j l p x → closes (suc i) j l ≡ true
+heard_aborts : (r : Release) (i j : ℕ) (l : Logged) (p : Participant) (x : Option Message) → ParticipantCall r i j l p x → closes (suc i) j l ≡ true
     → learnt (known (participant_of r i)) (known p) ≡ Outcome.Abort
 heard_aborts r i j l p x a e =
     let w = wrote_it (suc i) j l e in
     subst (Learns (participant_of r i) l.answer) a.answer (answer_learns (full r.n) i j (participant_of r i) l.answer)
     (not_recording i j (participant_of r i) (log_of r j) l a.done w.0) w.1
 
-coordinator_aborts : (r : Release) (j : ℕ) (l : Logged) (c : Coordinator) (x : Sent) → CoordinatorCall r j l c x → closes 0 j l ≡ true
+coordinator_aborts : (r : Release) (j : ℕ) (l : Logged) (c : Coordinator) (x : Option Message) → CoordinatorCall r j l c x → closes 0 j l ≡ true
     → learnt (coordinator_known r.coordinator) (coordinator_known c) ≡ Outcome.Abort
 coordinator_aborts r j l c x a e =
     subst (CoordinatorLearns l.answer r.coordinator) a.answer (coordinator_answer_learns (full r.n) j l.answer r.coordinator) (wrote_it 0 j l e).1

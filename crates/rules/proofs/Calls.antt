@@ -6,6 +6,7 @@ use Prim.Native.Nat.{ℕ, ◌<◌}
 use native.Mathlib.Omega.{arith}
 use lib.Dec.{eqb}
 use borrow.Author.Tests.{eqb-true}
+use Rattle.std.specs.Prelude.{Option}
 use Rattle.mask.specs.Mask.{has}
 use Rattle.mask.proofs.Laws.{has_insert_neither}
 use Rattle.store.specs.Log.{log_once, perform}
@@ -13,7 +14,7 @@ use Rattle.participant.specs.Participant
 use Rattle.coordinator.specs.Coordinator
 use Rattle.rules.proofs.Ranges.{Guard}
 use Rattle.rules.proofs.Cases.{cond_cases}
-use Rattle.rules.specs.Types.{LogRecord, None, Yes, Abort, Commit, LogPair, Call, Performed, Participant, Waiting, VotingYes, Closing, Uncertain, Terminating, RecordingCommit, RecordingAbort, DoneCommit, DoneAbort, Down, Coordinator}
+use Rattle.rules.specs.Types.{LogRecord, None, Yes, Abort, Commit, LogPair, Call, Logged, Participant, Waiting, VotingYes, Closing, Uncertain, Terminating, RecordingCommit, RecordingAbort, DoneCommit, DoneAbort, Down, Coordinator}
 use Rattle.rules.proofs.FirstRecords.{Claim, nothing, voted_yes, every_yes, some_abort, Stated, keep_refl}
 use Rattle.rules.proofs.Invariant.{Ends, Allowed, Knows}
 use Rattle.rules.proofs.Updates.{Change}
@@ -56,14 +57,14 @@ pub record Writes (n : ℕ) (F : ℕ → LogRecord) (j : ℕ) (p : Participant) 
   pub known : Says n F j r
 
 -- `p` is the participant whose log it is
-abbrev pub CallFits : ℕ → (ℕ → LogRecord) → ℕ → Participant → Call → Type 0
-CallFits n F j p Call.None = Unit {0}
-CallFits n F j p (Call.LogOnce r) = Vote r
-CallFits n F j p (Call.Log r) = Writes n F j p r
+abbrev pub CallFits : ℕ → (ℕ → LogRecord) → ℕ → Participant → Option Call → Type 0
+CallFits n F j p Option.None = Unit {0}
+CallFits n F j p (Option.Some (Call.LogOnce r)) = Vote r
+CallFits n F j p (Option.Some (Call.Log r)) = Writes n F j p r
 
-abbrev pub PerformedFits : ℕ → (ℕ → LogRecord) → Participant → LogPair → Performed → Type 0
-PerformedFits n F p old Performed.Refused = Unit {0}
-PerformedFits n F p old (Performed.Done x) = Change n F p old x.log
+abbrev pub PerformedFits : ℕ → (ℕ → LogRecord) → Participant → LogPair → Option Logged → Type 0
+PerformedFits n F p old Option.None = Unit {0}
+PerformedFits n F p old (Option.Some x) = Change n F p old x.log
 
 vote_no_commit : (r : LogRecord) → Vote r → r ≢ Commit
 vote_no_commit None h q = h
@@ -121,7 +122,7 @@ module _ (n : ℕ) (F : ℕ → LogRecord) (p : Participant) where
 
   -- a decision over a yes vote or over itself
   log_fits : (j : ℕ) (r first last : LogRecord) → Writes n F j p r → Allowed n F first last
-      → PerformedFits n F p (record { first = first; last = last }) (perform (Call.Log r) (record { first = first; last = last }))
+      → PerformedFits n F p (record { first = first; last = last }) (perform (Option.Some (Call.Log r)) (record { first = first; last = last }))
   log_fits j None first last w a = tt
   log_fits j Yes first last w a = tt
   log_fits j Commit first None w a = tt
@@ -139,23 +140,23 @@ module _ (n : ℕ) (F : ℕ → LogRecord) (p : Participant) where
   log_fits j Abort Commit Yes w a = absurd a
   log_fits j Abort first Abort w a = same (record { first = first; last = Abort }) a (w.free Abort)
 
-  pub perform_fits : (j : ℕ) (c : Call) (l : LogPair) → CallFits n F j p c → Allowed n F l.first l.last → Ends p l.last
+  pub perform_fits : (j : ℕ) (c : Option Call) (l : LogPair) → CallFits n F j p c → Allowed n F l.first l.last → Ends p l.last
       → PerformedFits n F p l (perform c l)
-  perform_fits j Call.None l h a k = tt
-  perform_fits j (Call.LogOnce r) l h a k = once_fits r l.first l.last h a k
-  perform_fits j (Call.Log r) l h a k = log_fits j r l.first l.last h a
+  perform_fits j Option.None l h a k = tt
+  perform_fits j (Option.Some (Call.LogOnce r)) l h a k = once_fits r l.first l.last h a k
+  perform_fits j (Option.Some (Call.Log r)) l h a k = log_fits j r l.first l.last h a
 
 -- the calls that the rules make
 
 -- a pending call of participant i, in state p, on log j of participant P j
-abbrev pub Pends : ℕ → (ℕ → LogRecord) → (ℕ → Participant) → ℕ → Participant → ℕ → Call → Type 0
-Pends n F P i p j Call.None = Unit {0}
-Pends n F P i p j (Call.LogOnce r) = Vote r × Guard i p j
-Pends n F P i p j (Call.Log r) = Writes n F j (P j) r × Guard i p j
+abbrev pub Pends : ℕ → (ℕ → LogRecord) → (ℕ → Participant) → ℕ → Participant → ℕ → Option Call → Type 0
+Pends n F P i p j Option.None = Unit {0}
+Pends n F P i p j (Option.Some (Call.LogOnce r)) = Vote r × Guard i p j
+Pends n F P i p j (Option.Some (Call.Log r)) = Writes n F j (P j) r × Guard i p j
 
 module _ (n : ℕ) (F : ℕ → LogRecord) (P : ℕ → Participant) (i j : ℕ) where
-  own_pends : (p : Participant) (c : Call) → (j ≡ i → Pends n F P i p j c) → Pends n F P i p j (Participant.own_call i j c)
-  own_pends p c f = cond_cases (Pends n F P i p j) (eqb j i) c Call.None (λ t. f (eqb-true j i t)) (λ t. tt)
+  own_pends : (p : Participant) (c : Call) → (j ≡ i → Pends n F P i p j (Option.Some c)) → Pends n F P i p j (Participant.own_call i j c)
+  own_pends p c f = cond_cases (Pends n F P i p j) (eqb j i) (Option.Some c) Option.None (λ t. f (eqb-true j i t)) (λ t. tt)
 
   pub pending_fits : (p : Participant) → P i ≡ p → Knows n F i p → Pends n F P i p j (Participant.pending i p j)
   pending_fits Waiting q k = tt
@@ -163,7 +164,7 @@ module _ (n : ℕ) (F : ℕ → LogRecord) (P : ℕ → Participant) (i j : ℕ)
   pending_fits Closing q k = own_pends Closing (Call.LogOnce Abort) (λ e. (tt, e))
   pending_fits Uncertain q k = tt
   pending_fits (Terminating h) q k =
-      cond_cases (Pends n F P i (Terminating h) j) (eqb j i || has j h) Call.None (Call.LogOnce Abort) (λ t. tt) (λ t. (tt, has_insert_neither i j h t))
+      cond_cases (Pends n F P i (Terminating h) j) (eqb j i || has j h) Option.None (Option.Some (Call.LogOnce Abort)) (λ t. tt) (λ t. (tt, has_insert_neither i j h t))
   pending_fits RecordingCommit q k =
       own_pends RecordingCommit (Call.Log Commit) (λ e. (record { free = λ x. rw (e, q) tt; known = k }, e))
   pending_fits RecordingAbort q k =
@@ -176,7 +177,7 @@ pub coordinator_pending_fits : (n : ℕ) (F : ℕ → LogRecord) (p : Participan
 coordinator_pending_fits n F p j Coordinator.Idle = tt
 coordinator_pending_fits n F p j (Coordinator.Waiting h) = tt
 coordinator_pending_fits n F p j (Coordinator.Terminating h) =
-    cond_cases (CallFits n F j p) (has j h) Call.None (Call.LogOnce Abort) (λ t. tt) (λ t. tt)
+    cond_cases (CallFits n F j p) (has j h) Option.None (Option.Some (Call.LogOnce Abort)) (λ t. tt) (λ t. tt)
 coordinator_pending_fits n F p j Coordinator.Commit = tt
 coordinator_pending_fits n F p j Coordinator.Abort = tt
 coordinator_pending_fits n F p j Coordinator.Down = tt

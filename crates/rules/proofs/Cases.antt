@@ -2,10 +2,12 @@
 use mathlib.Core.Path.{◌≡◌, refl}
 use mathlib.Core.Bool.{Bool, true, false, cond}
 use Prim.Native.Nat.{ℕ}
+use Rattle.std.specs.Prelude.{Option}
 use Rattle.mask.specs.Mask.{insert}
+use Rattle.message.specs.Message.{to, sends}
 use Rattle.participant.specs.Participant
 use Rattle.coordinator.specs.Coordinator
-use Rattle.rules.specs.Types.{LogRecord, None, Yes, Abort, Commit, Message, Sent, Decision, Participant, Waiting, VotingYes, Closing, Uncertain, Terminating, RecordingCommit, RecordingAbort, DoneCommit, DoneAbort, Down, Transition, NotDue, Coordinator, CoordinatorTransition}
+use Rattle.rules.specs.Types.{LogRecord, None, Yes, Abort, Commit, Message, Decision, Participant, Waiting, VotingYes, Closing, Uncertain, Terminating, RecordingCommit, RecordingAbort, DoneCommit, DoneAbort, Down, Transition, Coordinator}
 
 -- a test, and what it picks
 pub cond_cases {ℓ} : {A : Type ℓ} (P : A → Type 0) (b : Bool) (x y : A) → (b ≡ true → P x) → (b ≡ false → P y) → P (cond b x y)
@@ -40,9 +42,9 @@ decision_cases P d a b c DoneCommit = c DoneCommit
 decision_cases P d a b c DoneAbort = c DoneAbort
 decision_cases P d a b c Down = c Down
 
-pub timeout_cases : (P : Participant → Transition → Type 0) (all i : ℕ) → P Waiting (Participant.to Closing)
-    → P Uncertain (Participant.to (Participant.terminating all i 0)) → ((h : ℕ) → P (Terminating h) (Participant.to (Terminating 0)))
-    → ((p : Participant) → P p NotDue) → (p : Participant) → P p (Participant.on_timeout all i p)
+pub timeout_cases : (P : Participant → Transition Participant → Type 0) (all i : ℕ) → P Waiting (to Closing)
+    → P Uncertain (to (Participant.terminating all i 0)) → ((h : ℕ) → P (Terminating h) (to (Terminating 0)))
+    → ((p : Participant) → P p Option.None) → (p : Participant) → P p (Participant.on_timeout all i p)
 timeout_cases P all i a b c d Waiting = a
 timeout_cases P all i a b c d VotingYes = d VotingYes
 timeout_cases P all i a b c d Closing = d Closing
@@ -54,7 +56,7 @@ timeout_cases P all i a b c d DoneCommit = d DoneCommit
 timeout_cases P all i a b c d DoneAbort = d DoneAbort
 timeout_cases P all i a b c d Down = d Down
 
-pub crash_cases : (P : Participant → Transition → Type 0) → ((p : Participant) → P p (Participant.to Down)) → P Down NotDue
+pub crash_cases : (P : Participant → Transition Participant → Type 0) → ((p : Participant) → P p (to Down)) → P Down Option.None
     → (p : Participant) → P p (Participant.on_crash p)
 crash_cases P a b Waiting = a Waiting
 crash_cases P a b VotingYes = a VotingYes
@@ -67,7 +69,7 @@ crash_cases P a b DoneCommit = a DoneCommit
 crash_cases P a b DoneAbort = a DoneAbort
 crash_cases P a b Down = b
 
-pub restart_cases : (P : Participant → Transition → Type 0) → P Down (Participant.to Closing) → ((p : Participant) → P p NotDue)
+pub restart_cases : (P : Participant → Transition Participant → Type 0) → P Down (to Closing) → ((p : Participant) → P p Option.None)
     → (p : Participant) → P p (Participant.on_restart p)
 restart_cases P a b Waiting = b Waiting
 restart_cases P a b VotingYes = b VotingYes
@@ -81,20 +83,20 @@ restart_cases P a b DoneAbort = b DoneAbort
 restart_cases P a b Down = a
 
 -- the answers: every case in which a call's answer moves a participant. `j` is the log that answered
-pub record AnswerCases (all i j : ℕ) (P : Participant → LogRecord → Transition → Type 0) : Type 0 where
-  pub none : (p : Participant) (r : LogRecord) → P p r NotDue
-  pub vote_yes : P VotingYes Yes (Participant.sends Message.ReplyYes Uncertain)
-  pub vote_abort : P VotingYes Abort (Participant.sends Message.ReplyAbort DoneAbort)
-  pub close_yes : P Closing Yes (Participant.to (Participant.terminating all i 0))
-  pub close_abort : P Closing Abort (Participant.sends Message.ReplyAbort DoneAbort)
-  pub close_commit : P Closing Commit (Participant.to DoneCommit)
-  pub hear_yes : (h : ℕ) → P (Terminating h) Yes (Participant.to (Participant.terminating all i (insert j h)))
-  pub hear_abort : (h : ℕ) → P (Terminating h) Abort (Participant.to RecordingAbort)
-  pub hear_commit : (h : ℕ) → P (Terminating h) Commit (Participant.to RecordingCommit)
-  pub record_commit : P RecordingCommit Commit (Participant.to DoneCommit)
-  pub record_abort : P RecordingAbort Abort (Participant.to DoneAbort)
+pub record AnswerCases (all i j : ℕ) (P : Participant → LogRecord → Transition Participant → Type 0) : Type 0 where
+  pub none : (p : Participant) (r : LogRecord) → P p r Option.None
+  pub vote_yes : P VotingYes Yes (sends Message.ReplyYes Uncertain)
+  pub vote_abort : P VotingYes Abort (sends Message.ReplyAbort DoneAbort)
+  pub close_yes : P Closing Yes (to (Participant.terminating all i 0))
+  pub close_abort : P Closing Abort (sends Message.ReplyAbort DoneAbort)
+  pub close_commit : P Closing Commit (to DoneCommit)
+  pub hear_yes : (h : ℕ) → P (Terminating h) Yes (to (Participant.terminating all i (insert j h)))
+  pub hear_abort : (h : ℕ) → P (Terminating h) Abort (to RecordingAbort)
+  pub hear_commit : (h : ℕ) → P (Terminating h) Commit (to RecordingCommit)
+  pub record_commit : P RecordingCommit Commit (to DoneCommit)
+  pub record_abort : P RecordingAbort Abort (to DoneAbort)
 
-pub answer_cases : (all i j : ℕ) (P : Participant → LogRecord → Transition → Type 0) → AnswerCases all i j P → (p : Participant) (r : LogRecord)
+pub answer_cases : (all i j : ℕ) (P : Participant → LogRecord → Transition Participant → Type 0) → AnswerCases all i j P → (p : Participant) (r : LogRecord)
     → P p r (Participant.on_answer all i p j r)
 answer_cases all i j P c Waiting r = c.none Waiting r
 answer_cases all i j P c VotingYes None = c.none VotingYes None
@@ -124,8 +126,8 @@ answer_cases all i j P c Down r = c.none Down r
 
 -- the coordinator
 
-pub start_cases : (P : CoordinatorTransition → Type 0) → P (CoordinatorTransition.To (Coordinator.Waiting 0) (Sent.Sends Message.Request))
-    → P CoordinatorTransition.NotDue → (c : Coordinator) → P (Coordinator.on_start c)
+pub start_cases : (P : Transition Coordinator → Type 0) → P (Option.Some ((Coordinator.Waiting 0), (Option.Some Message.Request)))
+    → P Option.None → (c : Coordinator) → P (Coordinator.on_start c)
 start_cases P a b Coordinator.Idle = a
 start_cases P a b (Coordinator.Waiting h) = b
 start_cases P a b (Coordinator.Terminating h) = b
@@ -134,9 +136,9 @@ start_cases P a b Coordinator.Abort = b
 start_cases P a b Coordinator.Down = b
 start_cases P a b Coordinator.Retired = b
 
-pub reply_yes_cases : (P : Coordinator → CoordinatorTransition → Type 0) (all i : ℕ)
+pub reply_yes_cases : (P : Coordinator → Transition Coordinator → Type 0) (all i : ℕ)
     → ((h : ℕ) → P (Coordinator.Waiting h) (Coordinator.enters (Coordinator.unless_full all (insert i h) (Coordinator.Waiting (insert i h)))))
-    → ((c : Coordinator) → P c (Coordinator.to c)) → (c : Coordinator) → P c (Coordinator.on_reply_yes all i c)
+    → ((c : Coordinator) → P c (to c)) → (c : Coordinator) → P c (Coordinator.on_reply_yes all i c)
 reply_yes_cases P all i a b Coordinator.Idle = b Coordinator.Idle
 reply_yes_cases P all i a b (Coordinator.Waiting h) = a h
 reply_yes_cases P all i a b (Coordinator.Terminating h) = b (Coordinator.Terminating h)
@@ -145,8 +147,8 @@ reply_yes_cases P all i a b Coordinator.Abort = b Coordinator.Abort
 reply_yes_cases P all i a b Coordinator.Down = b Coordinator.Down
 reply_yes_cases P all i a b Coordinator.Retired = b Coordinator.Retired
 
-pub reply_abort_cases : (P : Coordinator → CoordinatorTransition → Type 0)
-    → ((h : ℕ) → P (Coordinator.Waiting h) (Coordinator.enters Coordinator.Abort)) → ((c : Coordinator) → P c (Coordinator.to c))
+pub reply_abort_cases : (P : Coordinator → Transition Coordinator → Type 0)
+    → ((h : ℕ) → P (Coordinator.Waiting h) (Coordinator.enters Coordinator.Abort)) → ((c : Coordinator) → P c (to c))
     → (c : Coordinator) → P c (Coordinator.on_reply_abort c)
 reply_abort_cases P a b Coordinator.Idle = b Coordinator.Idle
 reply_abort_cases P a b (Coordinator.Waiting h) = a h
@@ -156,7 +158,7 @@ reply_abort_cases P a b Coordinator.Abort = b Coordinator.Abort
 reply_abort_cases P a b Coordinator.Down = b Coordinator.Down
 reply_abort_cases P a b Coordinator.Retired = b Coordinator.Retired
 
-pub coordinator_timeout_cases : (P : CoordinatorTransition → Type 0) → P (Coordinator.to (Coordinator.Terminating 0)) → P CoordinatorTransition.NotDue
+pub coordinator_timeout_cases : (P : Transition Coordinator → Type 0) → P (to (Coordinator.Terminating 0)) → P Option.None
     → (c : Coordinator) → P (Coordinator.on_timeout c)
 coordinator_timeout_cases P a b Coordinator.Idle = b
 coordinator_timeout_cases P a b (Coordinator.Waiting h) = a
@@ -166,8 +168,8 @@ coordinator_timeout_cases P a b Coordinator.Abort = b
 coordinator_timeout_cases P a b Coordinator.Down = b
 coordinator_timeout_cases P a b Coordinator.Retired = b
 
-pub coordinator_answer_cases : (P : Coordinator → CoordinatorTransition → Type 0) (all j : ℕ) (r : LogRecord)
-    → ((c : Coordinator) → P c CoordinatorTransition.NotDue) → ((h : ℕ) → P (Coordinator.Terminating h) (Coordinator.on_heard all (insert j h) r))
+pub coordinator_answer_cases : (P : Coordinator → Transition Coordinator → Type 0) (all j : ℕ) (r : LogRecord)
+    → ((c : Coordinator) → P c Option.None) → ((h : ℕ) → P (Coordinator.Terminating h) (Coordinator.on_heard all (insert j h) r))
     → (c : Coordinator) → P c (Coordinator.on_answer all c j r)
 coordinator_answer_cases P all j r a b Coordinator.Idle = a Coordinator.Idle
 coordinator_answer_cases P all j r a b (Coordinator.Waiting h) = a (Coordinator.Waiting h)
@@ -177,8 +179,8 @@ coordinator_answer_cases P all j r a b Coordinator.Abort = a Coordinator.Abort
 coordinator_answer_cases P all j r a b Coordinator.Down = a Coordinator.Down
 coordinator_answer_cases P all j r a b Coordinator.Retired = a Coordinator.Retired
 
-pub coordinator_crash_cases : (P : Coordinator → CoordinatorTransition → Type 0) → ((c : Coordinator) → P c (Coordinator.to Coordinator.Down))
-    → P Coordinator.Down CoordinatorTransition.NotDue → (c : Coordinator) → P c (Coordinator.on_crash c)
+pub coordinator_crash_cases : (P : Coordinator → Transition Coordinator → Type 0) → ((c : Coordinator) → P c (to Coordinator.Down))
+    → P Coordinator.Down Option.None → (c : Coordinator) → P c (Coordinator.on_crash c)
 coordinator_crash_cases P a b Coordinator.Idle = a Coordinator.Idle
 coordinator_crash_cases P a b (Coordinator.Waiting h) = a (Coordinator.Waiting h)
 coordinator_crash_cases P a b (Coordinator.Terminating h) = a (Coordinator.Terminating h)
@@ -187,7 +189,7 @@ coordinator_crash_cases P a b Coordinator.Abort = a Coordinator.Abort
 coordinator_crash_cases P a b Coordinator.Down = b
 coordinator_crash_cases P a b Coordinator.Retired = a Coordinator.Retired
 
-pub coordinator_restart_cases : (P : CoordinatorTransition → Type 0) → P (Coordinator.to Coordinator.Retired) → P CoordinatorTransition.NotDue
+pub coordinator_restart_cases : (P : Transition Coordinator → Type 0) → P (to Coordinator.Retired) → P Option.None
     → (c : Coordinator) → P (Coordinator.on_restart c)
 coordinator_restart_cases P a b Coordinator.Idle = b
 coordinator_restart_cases P a b (Coordinator.Waiting h) = b
@@ -198,9 +200,9 @@ coordinator_restart_cases P a b Coordinator.Down = a
 coordinator_restart_cases P a b Coordinator.Retired = b
 
 -- what the coordinator enters: a state, with nothing sent, or a decision, sent
-pub enters_cases : (P : CoordinatorTransition → Type 0) (c : Coordinator) → P (Coordinator.to c)
-    → (c ≡ Coordinator.Commit → P (CoordinatorTransition.To Coordinator.Commit (Sent.Sends Message.Commit)))
-    → (c ≡ Coordinator.Abort → P (CoordinatorTransition.To Coordinator.Abort (Sent.Sends Message.Abort))) → P (Coordinator.enters c)
+pub enters_cases : (P : Transition Coordinator → Type 0) (c : Coordinator) → P (to c)
+    → (c ≡ Coordinator.Commit → P (Option.Some (Coordinator.Commit, (Option.Some Message.Commit))))
+    → (c ≡ Coordinator.Abort → P (Option.Some (Coordinator.Abort, (Option.Some Message.Abort)))) → P (Coordinator.enters c)
 enters_cases P Coordinator.Idle q a b = q
 enters_cases P (Coordinator.Waiting h) q a b = q
 enters_cases P (Coordinator.Terminating h) q a b = q

@@ -2,6 +2,7 @@
 use mathlib.Core.Path.{◌≡◌, refl}
 use mathlib.Core.Bool.{Bool, true, false, cond}
 use Prim.Native.Nat.{ℕ, zero, suc}
+use Rattle.std.specs.Prelude.{Option}
 use Rattle.mask.specs.Mask.{full}
 use Rattle.store.specs.Log.{perform}
 use Rattle.participant.specs.Participant
@@ -9,80 +10,80 @@ use Rattle.coordinator.specs.Coordinator
 use Rattle.rules.specs.State.{participant_of, log_of, in_flight}
 use Rattle.rules.specs.Report.{closes, with_closed}
 use Rattle.rules.specs.Step.{called, take_out, idle, moved, participant_to, participant_goes, coordinator_to, coordinator_goes, receive, participant_answered, participant_performed, participant_calls, coordinator_answered, coordinator_performed, coordinator_calls, step}
-use Rattle.rules.specs.Types.{Logged, Performed, Participant, Sent, Transition, NotDue, To, Coordinator, CoordinatorTransition, Message, Step, Start, Deliver, Copy, Lose, Timeout, Crash, Restart, Release, Report}
+use Rattle.rules.specs.Types.{Logged, Participant, Message, Transition, Coordinator, Step, Start, Deliver, Copy, Lose, Timeout, Crash, Restart, Release, Report}
 
 -- a due call of participant i on log j, that leaves x and leads to state p with s sent
-pub record ParticipantCall (r : Release) (i j : ℕ) (x : Logged) (p : Participant) (s : Sent) : Type 0 where
-  pub done : perform (Participant.pending i (participant_of r i) j) (log_of r j) ≡ Performed.Done x
-  pub answer : Participant.on_answer (full r.n) i (participant_of r i) j x.answer ≡ To p s
+pub record ParticipantCall (r : Release) (i j : ℕ) (x : Logged) (p : Participant) (s : Option Message) : Type 0 where
+  pub done : perform (Participant.pending i (participant_of r i) j) (log_of r j) ≡ Option.Some x
+  pub answer : Participant.on_answer (full r.n) i (participant_of r i) j x.answer ≡ Option.Some (p, s)
 
 -- a due call of the coordinator
-pub record CoordinatorCall (r : Release) (j : ℕ) (x : Logged) (c : Coordinator) (s : Sent) : Type 0 where
-  pub done : perform (Coordinator.pending r.coordinator j) (log_of r j) ≡ Performed.Done x
-  pub answer : Coordinator.on_answer (full r.n) r.coordinator j x.answer ≡ CoordinatorTransition.To c s
+pub record CoordinatorCall (r : Release) (j : ℕ) (x : Logged) (c : Coordinator) (s : Option Message) : Type 0 where
+  pub done : perform (Coordinator.pending r.coordinator j) (log_of r j) ≡ Option.Some x
+  pub answer : Coordinator.on_answer (full r.n) r.coordinator j x.answer ≡ Option.Some (c, s)
 
 pub data Cause (r : Release) : Step → Report → Type 0 where
   idles : {s : Step} → Cause r s (idle r)
-  starts : {c : Coordinator} {x : Sent} → Coordinator.on_start r.coordinator ≡ CoordinatorTransition.To c x → Cause r Start (coordinator_to c x r)
+  starts : {c : Coordinator} {x : Option Message} → Coordinator.on_start r.coordinator ≡ Option.Some (c, x) → Cause r Start (coordinator_to c x r)
   delivers : {m : Message} {i : ℕ} → in_flight r m i ≡ true → Cause r (Deliver m (suc i)) (receive m i (take_out m i r))
   copies : {m : Message} {i : ℕ} → in_flight r m i ≡ true → Cause r (Copy m (suc i)) (receive m i r)
   loses : {m : Message} {i : ℕ} → Cause r (Lose m (suc i)) (moved (take_out m i r))
-  answered : {i j : ℕ} {l : Logged} {p : Participant} {x : Sent} → ParticipantCall r i j l p x
+  answered : {i j : ℕ} {l : Logged} {p : Participant} {x : Option Message} → ParticipantCall r i j l p x
       → Cause r (Step.Call (suc i) (suc j)) (with_closed (closes (suc i) j l) (participant_to i p x (called (suc i) j l.log r)))
-  lost : {i j : ℕ} {l : Logged} {p : Participant} {x : Sent} → ParticipantCall r i j l p x
+  lost : {i j : ℕ} {l : Logged} {p : Participant} {x : Option Message} → ParticipantCall r i j l p x
       → Cause r (Step.CallLost (suc i) (suc j)) (with_closed (closes (suc i) j l) (moved (called (suc i) j l.log r)))
-  coordinator_answered_lem : {j : ℕ} {l : Logged} {c : Coordinator} {x : Sent} → CoordinatorCall r j l c x
+  coordinator_answered_lem : {j : ℕ} {l : Logged} {c : Coordinator} {x : Option Message} → CoordinatorCall r j l c x
       → Cause r (Step.Call zero (suc j)) (with_closed (closes 0 j l) (coordinator_to c x (called 0 j l.log r)))
-  coordinator_lost : {j : ℕ} {l : Logged} {c : Coordinator} {x : Sent} → CoordinatorCall r j l c x
+  coordinator_lost : {j : ℕ} {l : Logged} {c : Coordinator} {x : Option Message} → CoordinatorCall r j l c x
       → Cause r (Step.CallLost zero (suc j)) (with_closed (closes 0 j l) (moved (called 0 j l.log r)))
-  times_out : {i : ℕ} {p : Participant} {x : Sent} → Participant.on_timeout (full r.n) i (participant_of r i) ≡ To p x
+  times_out : {i : ℕ} {p : Participant} {x : Option Message} → Participant.on_timeout (full r.n) i (participant_of r i) ≡ Option.Some (p, x)
       → Cause r (Timeout (suc i)) (participant_to i p x r)
-  crashes : {i : ℕ} {p : Participant} {x : Sent} → Participant.on_crash (participant_of r i) ≡ To p x → Cause r (Crash (suc i)) (participant_to i p x r)
-  restarts : {i : ℕ} {p : Participant} {x : Sent} → Participant.on_restart (participant_of r i) ≡ To p x → Cause r (Restart (suc i)) (participant_to i p x r)
-  coordinator_times_out : {c : Coordinator} {x : Sent} → Coordinator.on_timeout r.coordinator ≡ CoordinatorTransition.To c x
+  crashes : {i : ℕ} {p : Participant} {x : Option Message} → Participant.on_crash (participant_of r i) ≡ Option.Some (p, x) → Cause r (Crash (suc i)) (participant_to i p x r)
+  restarts : {i : ℕ} {p : Participant} {x : Option Message} → Participant.on_restart (participant_of r i) ≡ Option.Some (p, x) → Cause r (Restart (suc i)) (participant_to i p x r)
+  coordinator_times_out : {c : Coordinator} {x : Option Message} → Coordinator.on_timeout r.coordinator ≡ Option.Some (c, x)
       → Cause r (Timeout zero) (coordinator_to c x r)
-  coordinator_crashes : {c : Coordinator} {x : Sent} → Coordinator.on_crash r.coordinator ≡ CoordinatorTransition.To c x
+  coordinator_crashes : {c : Coordinator} {x : Option Message} → Coordinator.on_crash r.coordinator ≡ Option.Some (c, x)
       → Cause r (Crash zero) (coordinator_to c x r)
-  coordinator_restarts : {c : Coordinator} {x : Sent} → Coordinator.on_restart r.coordinator ≡ CoordinatorTransition.To c x
+  coordinator_restarts : {c : Coordinator} {x : Option Message} → Coordinator.on_restart r.coordinator ≡ Option.Some (c, x)
       → Cause r (Restart zero) (coordinator_to c x r)
 
 module _ (r : Release) (s : Step) where
-  goes_cause : (i : ℕ) (t₀ t : Transition) → t₀ ≡ t → ((p : Participant) (x : Sent) → t₀ ≡ To p x → Cause r s (participant_to i p x r))
+  goes_cause : (i : ℕ) (t₀ t : Transition Participant) → t₀ ≡ t → ((p : Participant) (x : Option Message) → t₀ ≡ Option.Some (p, x) → Cause r s (participant_to i p x r))
       → Cause r s (participant_goes i t r)
-  goes_cause i t₀ NotDue q f = idles
-  goes_cause i t₀ (To p x) q f = f p x q
+  goes_cause i t₀ Option.None q f = idles
+  goes_cause i t₀ (Option.Some (p, x)) q f = f p x q
 
-  coordinator_cause : (t₀ t : CoordinatorTransition) → t₀ ≡ t
-      → ((c : Coordinator) (x : Sent) → t₀ ≡ CoordinatorTransition.To c x → Cause r s (coordinator_to c x r)) → Cause r s (coordinator_goes t r)
-  coordinator_cause t₀ CoordinatorTransition.NotDue q f = idles
-  coordinator_cause t₀ (CoordinatorTransition.To c x) q f = f c x q
+  coordinator_cause : (t₀ t : Transition Coordinator) → t₀ ≡ t
+      → ((c : Coordinator) (x : Option Message) → t₀ ≡ Option.Some (c, x) → Cause r s (coordinator_to c x r)) → Cause r s (coordinator_goes t r)
+  coordinator_cause t₀ Option.None q f = idles
+  coordinator_cause t₀ (Option.Some (c, x)) q f = f c x q
 
   flight_cause : (b₀ b : Bool) (t : Report) → b₀ ≡ b → (b₀ ≡ true → Cause r s t) → Cause r s (cond b t (idle r))
   flight_cause b₀ true t q f = f q
   flight_cause b₀ false t q f = idles
 
-answered_cause : (r : Release) (i j : ℕ) (l : Logged) (t : Transition) → perform (Participant.pending i (participant_of r i) j) (log_of r j) ≡ Performed.Done l
+answered_cause : (r : Release) (i j : ℕ) (l : Logged) (t : Transition Participant) → perform (Participant.pending i (participant_of r i) j) (log_of r j) ≡ Option.Some l
     → Participant.on_answer (full r.n) i (participant_of r i) j l.answer ≡ t
     → Cause r (Step.Call (suc i) (suc j)) (participant_answered true i j l t r) × Cause r (Step.CallLost (suc i) (suc j)) (participant_answered false i j l t r)
-answered_cause r i j l NotDue q e = (idles, idles)
-answered_cause r i j l (To p x) q e = (answered (record { done = q; answer = e }), lost (record { done = q; answer = e }))
+answered_cause r i j l Option.None q e = (idles, idles)
+answered_cause r i j l (Option.Some (p, x)) q e = (answered (record { done = q; answer = e }), lost (record { done = q; answer = e }))
 
-performed_cause : (r : Release) (i j : ℕ) (s : Performed) → perform (Participant.pending i (participant_of r i) j) (log_of r j) ≡ s
+performed_cause : (r : Release) (i j : ℕ) (s : Option Logged) → perform (Participant.pending i (participant_of r i) j) (log_of r j) ≡ s
     → Cause r (Step.Call (suc i) (suc j)) (participant_performed true i j s r) × Cause r (Step.CallLost (suc i) (suc j)) (participant_performed false i j s r)
-performed_cause r i j Performed.Refused q = (idles, idles)
-performed_cause r i j (Performed.Done l) q = answered_cause r i j l (Participant.on_answer (full r.n) i (participant_of r i) j l.answer) q refl
+performed_cause r i j Option.None q = (idles, idles)
+performed_cause r i j (Option.Some l) q = answered_cause r i j l (Participant.on_answer (full r.n) i (participant_of r i) j l.answer) q refl
 
-coordinator_answered_cause : (r : Release) (j : ℕ) (l : Logged) (t : CoordinatorTransition)
-    → perform (Coordinator.pending r.coordinator j) (log_of r j) ≡ Performed.Done l → Coordinator.on_answer (full r.n) r.coordinator j l.answer ≡ t
+coordinator_answered_cause : (r : Release) (j : ℕ) (l : Logged) (t : Transition Coordinator)
+    → perform (Coordinator.pending r.coordinator j) (log_of r j) ≡ Option.Some l → Coordinator.on_answer (full r.n) r.coordinator j l.answer ≡ t
     → Cause r (Step.Call zero (suc j)) (coordinator_answered true j l t r) × Cause r (Step.CallLost zero (suc j)) (coordinator_answered false j l t r)
-coordinator_answered_cause r j l CoordinatorTransition.NotDue q e = (idles, idles)
-coordinator_answered_cause r j l (CoordinatorTransition.To c x) q e =
+coordinator_answered_cause r j l Option.None q e = (idles, idles)
+coordinator_answered_cause r j l (Option.Some (c, x)) q e =
     (coordinator_answered_lem (record { done = q; answer = e }), coordinator_lost (record { done = q; answer = e }))
 
-coordinator_performed_cause : (r : Release) (j : ℕ) (s : Performed) → perform (Coordinator.pending r.coordinator j) (log_of r j) ≡ s
+coordinator_performed_cause : (r : Release) (j : ℕ) (s : Option Logged) → perform (Coordinator.pending r.coordinator j) (log_of r j) ≡ s
     → Cause r (Step.Call zero (suc j)) (coordinator_performed true j s r) × Cause r (Step.CallLost zero (suc j)) (coordinator_performed false j s r)
-coordinator_performed_cause r j Performed.Refused q = (idles, idles)
-coordinator_performed_cause r j (Performed.Done l) q =
+coordinator_performed_cause r j Option.None q = (idles, idles)
+coordinator_performed_cause r j (Option.Some l) q =
     coordinator_answered_cause r j l (Coordinator.on_answer (full r.n) r.coordinator j l.answer) q refl
 
 pub cause : (r : Release) (s : Step) → Cause r s (step r s)

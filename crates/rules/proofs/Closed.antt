@@ -9,6 +9,7 @@ use lib.Dec.{eqb}
 use lib.ListN.{length, get_or, set}
 use lib.Seq.{get_or-set_same}
 use borrow.Author.Tests.{eqb-false, not-true, ne_eqb}
+use Rattle.std.specs.Prelude.{Option}
 use Rattle.number.proofs.Laws.{and_left, and_right, and_true}
 use Rattle.mask.specs.Mask.{full}
 use Rattle.store.specs.Log.{empty, is_none, is_abort, perform, wrote_abort}
@@ -19,7 +20,7 @@ use Rattle.rules.specs.State.{participant_of, log_of, first_of}
 use Rattle.rules.specs.Report.{closes}
 use Rattle.rules.specs.Step.{called, take_out, participant_to, coordinator_to, coordinator_goes, receive, step, is_due}
 use Rattle.rules.specs.Closed.{ClosesAnother, ClosedAsWritten}
-use Rattle.rules.specs.Types.{LogRecord, None, Yes, Abort, Commit, LogPair, Call, Logged, Performed, Participant, Sent, Coordinator, CoordinatorTransition, Message, Step, Start, Deliver, Copy, Lose, Timeout, Crash, Restart, Release, Report}
+use Rattle.rules.specs.Types.{LogRecord, None, Yes, Abort, Commit, LogPair, Call, Logged, Participant, Message, Coordinator, Transition, Step, Start, Deliver, Copy, Lose, Timeout, Crash, Restart, Release, Report}
 use Rattle.rules.proofs.Bounds.{Bounds, bounds}
 use Rattle.rules.proofs.Causes.{Cause, idles, starts, delivers, copies, loses, answered, lost, coordinator_answered_lem, coordinator_lost, times_out, crashes, restarts, coordinator_times_out, coordinator_crashes, coordinator_restarts, cause}
 use Rattle.rules.proofs.Actions.{not_due_stays}
@@ -47,9 +48,9 @@ closes_another (Restart p) before after = false
 
 -- A call that wrote an abort as the first record, by what it says and by the log
 
-abbrev Says : LogPair → Performed → Type 0
-Says l Performed.Refused = Unit {0}
-Says l (Performed.Done x) = wrote_abort x ≡ is_none l.first && is_abort x.log.first
+abbrev Says : LogPair → Option Logged → Type 0
+Says l Option.None = Unit {0}
+Says l (Option.Some x) = wrote_abort x ≡ is_none l.first && is_abort x.log.first
 
 -- a first record that stays is not an abort where there was none
 stays : (first : LogRecord) → false ≡ is_none first && is_abort first
@@ -58,13 +59,13 @@ stays Yes = refl
 stays Abort = refl
 stays Commit = refl
 
-perform_says : (c : Call) (l : LogPair) → Says l (perform c l)
-perform_says Call.None l = tt
-perform_says (Call.LogOnce r) l = once_cases (λ x. Says l (Performed.Done x)) r l (λ e. rw e refl) (stays l.first)
-perform_says (Call.Log r) l = log_cases (Says l) r l tt (stays l.first)
+perform_says : (c : Option Call) (l : LogPair) → Says l (perform c l)
+perform_says Option.None l = tt
+perform_says (Option.Some (Call.LogOnce r)) l = once_cases (λ x. Says l (Option.Some x)) r l (λ e. rw e refl) (stays l.first)
+perform_says (Option.Some (Call.Log r)) l = log_cases (Says l) r l tt (stays l.first)
 
 -- a due call of party p on the log at place j, that leaves the log of x in the release t
-call_closes_lem : (r t : Release) (p j : ℕ) (c : Call) (x : Logged) → perform c (log_of r j) ≡ Performed.Done x → j < length r.store.logs
+call_closes_lem : (r t : Release) (p j : ℕ) (c : Option Call) (x : Logged) → perform c (log_of r j) ≡ Option.Some x → j < length r.store.logs
     → t.store.logs ≡ set r.store.logs j x.log → closes p j x ≡ another_closed p j r t
 call_closes_lem r t p j c x q room e =
     let at : log_of t j ≡ x.log = ap (λ (l : List LogPair). get_or l j empty) e ∙ get_or-set_same r.store.logs j x.log empty room in
@@ -73,34 +74,34 @@ call_closes_lem r t p j c x q room e =
 
 -- A party that goes to a state leaves the logs, and closes none
 
-to_logs : (i : ℕ) (p : Participant) (s : Sent) (r : Release) → (participant_to i p s r).next.store.logs ≡ r.store.logs
+to_logs : (i : ℕ) (p : Participant) (s : Option Message) (r : Release) → (participant_to i p s r).next.store.logs ≡ r.store.logs
 unfolding participant_to
-to_logs i p Sent.Nothing r = refl
-to_logs i p (Sent.Sends m) r = refl
+to_logs i p Option.None r = refl
+to_logs i p (Option.Some m) r = refl
 
-coordinator_logs : (c : Coordinator) (s : Sent) (r : Release) → (coordinator_to c s r).next.store.logs ≡ r.store.logs
+coordinator_logs : (c : Coordinator) (s : Option Message) (r : Release) → (coordinator_to c s r).next.store.logs ≡ r.store.logs
 unfolding coordinator_to
-coordinator_logs c Sent.Nothing r = refl
-coordinator_logs c (Sent.Sends m) r = refl
+coordinator_logs c Option.None r = refl
+coordinator_logs c (Option.Some m) r = refl
 
-pub to_closed : (i : ℕ) (p : Participant) (s : Sent) (r : Release) → (participant_to i p s r).closed ≡ false
+pub to_closed : (i : ℕ) (p : Participant) (s : Option Message) (r : Release) → (participant_to i p s r).closed ≡ false
 unfolding participant_to
 to_closed i p s r = refl
 
-pub coordinator_closed : (c : Coordinator) (s : Sent) (r : Release) → (coordinator_to c s r).closed ≡ false
+pub coordinator_closed : (c : Coordinator) (s : Option Message) (r : Release) → (coordinator_to c s r).closed ≡ false
 unfolding coordinator_to
 coordinator_closed c s r = refl
 
-goes_closed : (t : CoordinatorTransition) (r : Release) → (coordinator_goes t r).closed ≡ false
-goes_closed CoordinatorTransition.NotDue r = refl
-goes_closed (CoordinatorTransition.To c s) r = coordinator_closed c s r
+goes_closed : (t : Transition Coordinator) (r : Release) → (coordinator_goes t r).closed ≡ false
+goes_closed Option.None r = refl
+goes_closed (Option.Some (c, s)) r = coordinator_closed c s r
 
 pub receive_closed : (m : Message) (i : ℕ) (r : Release) → (receive m i r).closed ≡ false
-receive_closed Message.Request i r = to_closed i _ Sent.Nothing r
+receive_closed Message.Request i r = to_closed i _ Option.None r
 receive_closed Message.ReplyYes i r = goes_closed (Coordinator.on_reply_yes (full r.n) i r.coordinator) r
 receive_closed Message.ReplyAbort i r = goes_closed (Coordinator.on_reply_abort r.coordinator) r
-receive_closed Message.Commit i r = to_closed i _ Sent.Nothing r
-receive_closed Message.Abort i r = to_closed i _ Sent.Nothing r
+receive_closed Message.Commit i r = to_closed i _ Option.None r
+receive_closed Message.Abort i r = to_closed i _ Option.None r
 
 -- The word, by the logs
 

@@ -7,6 +7,7 @@ use Prim.Native.Nat.{ℕ, zero, suc, ◌≤◌, ◌<◌}
 use native.Mathlib.Omega.{arith}
 use native.Mathlib.Nat.{le_trans}
 use lib.ListN.{length, set}
+use Rattle.std.specs.Prelude.{Option}
 use Rattle.kind.specs.Step.{AllInRange}
 use Rattle.participant.specs.Participant
 use Rattle.participant.specs.Decision.{TakesDecision, DecisionLeads}
@@ -19,7 +20,7 @@ use Rattle.rules.specs.Step.{take_out, with_participant, participant_to, receive
 use Rattle.rules.specs.Run.{after}
 use Rattle.rules.specs.Demand.{Holds}
 use Rattle.rules.specs.Decision.{decision_message, decision_byte, DeliversDecision, DeliveredAsWritten, HoldsDecision, OneCallLeft, HeldAfterOneCall}
-use Rattle.rules.specs.Types.{Participant, Uncertain, Terminating, Sent, Decision, Site, Release, Step, Deliver, Copy, Outcome, Report}
+use Rattle.rules.specs.Types.{Participant, Uncertain, Terminating, Message, Decision, Site, Release, Step, Deliver, Copy, Outcome, Report}
 use Rattle.rules.proofs.FirstRecords.{Stated, still, keeps_trans, excluded}
 use Rattle.rules.proofs.Invariant.{message_claim, Knows, Inv}
 use Rattle.rules.proofs.Updates.{Good}
@@ -39,9 +40,9 @@ decided r d i = Participant.on_decision d (participant_of r i)
 record Received (r : Release) (s : Step) (d : Decision) (i : ℕ) : Type 0 where
   from : Release
   sites : from.sites ≡ r.sites
-  report : step r s ≡ participant_to i (decided r d i) Sent.Nothing from
+  report : step r s ≡ participant_to i (decided r d i) Option.None from
 
-receives : (d : Decision) (i : ℕ) (r : Release) → receive (decision_message d) i r ≡ participant_to i (decided r d i) Sent.Nothing r
+receives : (d : Decision) (i : ℕ) (r : Release) → receive (decision_message d) i r ≡ participant_to i (decided r d i) Option.None r
 receives Decision.Commit i r = refl
 receives Decision.Abort i r = refl
 
@@ -58,9 +59,9 @@ received r s d i b = go b.delivery
 taken_by : (r : Release) (s : Step) (d : Decision) (i : ℕ) → i < length r.sites → DeliversDecision r s d i → participant_of (step r s).next i ≡ decided r d i
 taken_by r s d i room b =
     let x : Received r s d i = received r s d i b in
-    ap (λ (t : Report). participant_of t.next i) x.report ∙ (participant_goes_to i (decided r d i) Sent.Nothing x.from).state (rw x.sites room)
+    ap (λ (t : Report). participant_of t.next i) x.report ∙ (participant_goes_to i (decided r d i) Option.None x.from).state (rw x.sites room)
 
-to_byte : (i : ℕ) (p : Participant) (s : Sent) (r : Release) → step_byte (participant_to i p s r) ≡ outcome_number (learnt (known (participant_of r i)) (known p))
+to_byte : (i : ℕ) (p : Participant) (s : Option Message) (r : Release) → step_byte (participant_to i p s r) ≡ outcome_number (learnt (known (participant_of r i)) (known p))
 unfolding participant_to
 to_byte i p s r = omega arith
 
@@ -68,7 +69,7 @@ byte_by : (r : Release) (s : Step) (d : Decision) (i : ℕ) → DeliversDecision
     → step_byte (step r s) ≡ outcome_number (learnt (known (participant_of r i)) (known (decided r d i)))
 byte_by r s d i b =
     let x : Received r s d i = received r s d i b in
-    ap step_byte x.report ∙ to_byte i (decided r d i) Sent.Nothing x.from
+    ap step_byte x.report ∙ to_byte i (decided r d i) Option.None x.from
     ∙ ap (λ (l : List Site). outcome_number (learnt (known (participant_at l i)) (known (decided r d i)))) x.sites
 
 -- in 3 or 4 it knows no decision yet
@@ -106,7 +107,7 @@ module _ (r : Release) (d : Decision) (i : ℕ) where
       }
 
   like_uncertain : (h : ℕ) → i < length r.sites → participant_of r i ≡ Terminating h
-      → participant_to i (decided r d i) Sent.Nothing r ≡ participant_to i (decided uncertain d i) Sent.Nothing uncertain
+      → participant_to i (decided r d i) Option.None r ≡ participant_to i (decided uncertain d i) Option.None uncertain
   unfolding participant_to
   like_uncertain h room e =
       let u : participant_of uncertain i ≡ Uncertain = placed i Uncertain r room in

@@ -2,12 +2,13 @@
 use mathlib.Core.Path.{◌≡◌, refl}
 use mathlib.Core.Bool.{Bool, true, false, false≢true}
 use Prim.Native.Nat.{ℕ}
+use Rattle.std.specs.Prelude.{Option}
 use Rattle.coordinator.specs.Coordinator
 use Rattle.rules.proofs.Cases.{enters_cases}
 use Rattle.rules.specs.State.{participant_of}
 use Rattle.rules.specs.Report.{moves, known, coordinator_known, learnt}
 use Rattle.rules.specs.Step.{participant_to, participant_goes, coordinator_to, coordinator_goes}
-use Rattle.rules.specs.Types.{Participant, Waiting, VotingYes, Closing, Uncertain, Terminating, RecordingCommit, RecordingAbort, DoneCommit, DoneAbort, Down, Sent, Transition, NotDue, To, Coordinator, CoordinatorTransition, Outcome, Release}
+use Rattle.rules.specs.Types.{Participant, Waiting, VotingYes, Closing, Uncertain, Terminating, RecordingCommit, RecordingAbort, DoneCommit, DoneAbort, Down, Message, Transition, Coordinator, Outcome, Release}
 
 pub known_moves : (p : Participant) → moves (known p) ≡ true
 known_moves Waiting = refl
@@ -43,39 +44,39 @@ same_learnt Outcome.Moved h = refl
 same_learnt Outcome.Commit h = refl
 same_learnt Outcome.Abort h = refl
 
-pub participant_due : (i : ℕ) (p : Participant) (s : Sent) (r : Release) → moves (participant_to i p s r).outcome ≡ true
+pub participant_due : (i : ℕ) (p : Participant) (s : Option Message) (r : Release) → moves (participant_to i p s r).outcome ≡ true
 unfolding participant_to
 participant_due i p s r = learnt_moves (known (participant_of r i)) (known p) (known_moves p)
 
-pub coordinator_due : (c : Coordinator) (s : Sent) (r : Release) → moves (coordinator_to c s r).outcome ≡ true
+pub coordinator_due : (c : Coordinator) (s : Option Message) (r : Release) → moves (coordinator_to c s r).outcome ≡ true
 unfolding coordinator_to
 coordinator_due c s r = learnt_moves (coordinator_known r.coordinator) (coordinator_known c) (coordinator_moves c)
 
-abbrev pub IsTo : Transition → Type 0
-IsTo NotDue = ⊥
-IsTo (To p s) = Unit {0}
+abbrev pub IsTo : Transition Participant → Type 0
+IsTo Option.None = ⊥
+IsTo (Option.Some (p, s)) = Unit {0}
 
-pub goes_due : (i : ℕ) (t : Transition) (r : Release) → IsTo t → moves (participant_goes i t r).outcome ≡ true
-goes_due i NotDue r h = absurd h
-goes_due i (To p s) r h = participant_due i p s r
+pub goes_due : (i : ℕ) (t : Transition Participant) (r : Release) → IsTo t → moves (participant_goes i t r).outcome ≡ true
+goes_due i Option.None r h = absurd h
+goes_due i (Option.Some (p, s)) r h = participant_due i p s r
 
 -- whether a transition leads anywhere
 
-abbrev pub leads : Transition → Bool
-leads NotDue = false
-leads (To p s) = true
+abbrev pub leads : Transition Participant → Bool
+leads Option.None = false
+leads (Option.Some (p, s)) = true
 
-abbrev pub coordinator_leads : CoordinatorTransition → Bool
-coordinator_leads CoordinatorTransition.NotDue = false
-coordinator_leads (CoordinatorTransition.To c s) = true
+abbrev pub coordinator_leads : Transition Coordinator → Bool
+coordinator_leads Option.None = false
+coordinator_leads (Option.Some (c, s)) = true
 
-pub goes_moves : (i : ℕ) (t : Transition) (r : Release) → moves (participant_goes i t r).outcome ≡ leads t
-goes_moves i NotDue r = refl
-goes_moves i (To p s) r = participant_due i p s r
+pub goes_moves : (i : ℕ) (t : Transition Participant) (r : Release) → moves (participant_goes i t r).outcome ≡ leads t
+goes_moves i Option.None r = refl
+goes_moves i (Option.Some (p, s)) r = participant_due i p s r
 
-pub coordinator_goes_moves : (t : CoordinatorTransition) (r : Release) → moves (coordinator_goes t r).outcome ≡ coordinator_leads t
-coordinator_goes_moves CoordinatorTransition.NotDue r = refl
-coordinator_goes_moves (CoordinatorTransition.To c s) r = coordinator_due c s r
+pub coordinator_goes_moves : (t : Transition Coordinator) (r : Release) → moves (coordinator_goes t r).outcome ≡ coordinator_leads t
+coordinator_goes_moves Option.None r = refl
+coordinator_goes_moves (Option.Some (c, s)) r = coordinator_due c s r
 
 -- what the coordinator enters
 pub enters_leads : (c : Coordinator) → coordinator_leads (Coordinator.enters c) ≡ true

@@ -3,6 +3,7 @@ use mathlib.Core.Path.{◌≡◌, refl, ◌∙◌}
 use mathlib.Core.Bool.{Bool, true, false, not, cond}
 use mathlib.Core.List.{[], ◌∷◌}
 use Prim.Native.Nat.{ℕ, zero, suc}
+use Rattle.std.specs.Prelude.{Option}
 use Rattle.mask.specs.Mask.{insert, full}
 use Rattle.store.specs.Log.{perform}
 use Rattle.participant.specs.Participant
@@ -11,7 +12,7 @@ use Rattle.rules.specs.State.{participant_of, log_of, in_flight}
 use Rattle.rules.specs.Report.{moves}
 use Rattle.rules.specs.Step.{called, take_out, idle, moved, receive, participant_answered, participant_performed, participant_calls, coordinator_answered, coordinator_performed, coordinator_calls, calls}
 use Rattle.rules.specs.Due.{in_states, can_get, answerable, call_due, DueAsWritten}
-use Rattle.rules.specs.Types.{LogRecord, None, Yes, Abort, Commit, LogPair, Logged, Performed, Participant, Waiting, VotingYes, Closing, Uncertain, Terminating, RecordingCommit, RecordingAbort, DoneCommit, DoneAbort, Down, Transition, NotDue, To, Coordinator, CoordinatorTransition, Release, Step, Start, Deliver, Copy, Lose, Timeout, Crash, Restart, Report}
+use Rattle.rules.specs.Types.{LogRecord, None, Yes, Abort, Commit, LogPair, Logged, Participant, Waiting, VotingYes, Closing, Uncertain, Terminating, RecordingCommit, RecordingAbort, DoneCommit, DoneAbort, Down, Transition, Coordinator, Release, Step, Start, Deliver, Copy, Lose, Timeout, Crash, Restart, Report}
 use Rattle.rules.proofs.Due.{participant_due, coordinator_due, leads, coordinator_leads, goes_moves, coordinator_goes_moves, enters_leads}
 use Rattle.rules.proofs.Actions.{receive_moves}
 
@@ -138,13 +139,13 @@ answer_leads all i j DoneAbort a h = absurd h
 answer_leads all i j Down a h = absurd h
 
 -- a state with no call pending performs nothing
-abbrev CallOf : Participant → Performed → Type 0
-CallOf p Performed.Refused = Unit {0}
-CallOf p (Performed.Done x) = Asks p
+abbrev CallOf : Participant → Option Logged → Type 0
+CallOf p Option.None = Unit {0}
+CallOf p (Option.Some x) = Asks p
 
-asks_any : (p : Participant) (s : Performed) → Asks p → CallOf p s
-asks_any p Performed.Refused a = tt
-asks_any p (Performed.Done x) a = a
+asks_any : (p : Participant) (s : Option Logged) → Asks p → CallOf p s
+asks_any p Option.None a = tt
+asks_any p (Option.Some x) a = a
 
 pending_asks : (i : ℕ) (p : Participant) (j : ℕ) (l : LogPair) → CallOf p (perform (Participant.pending i p j) l)
 pending_asks i Waiting j l = tt
@@ -158,15 +159,15 @@ pending_asks i DoneCommit j l = tt
 pending_asks i DoneAbort j l = tt
 pending_asks i Down j l = tt
 
-answered_moves : (heard : Bool) (i j : ℕ) (x : Logged) (t : Transition) (r : Release) → moves (participant_answered heard i j x t r).outcome ≡ leads t
-answered_moves heard i j x NotDue r = refl
-answered_moves true i j x (To p s) r = participant_due i p s (called (suc i) j x.log r)
-answered_moves false i j x (To p s) r = refl
+answered_moves : (heard : Bool) (i j : ℕ) (x : Logged) (t : Transition Participant) (r : Release) → moves (participant_answered heard i j x t r).outcome ≡ leads t
+answered_moves heard i j x Option.None r = refl
+answered_moves true i j x (Option.Some (p, s)) r = participant_due i p s (called (suc i) j x.log r)
+answered_moves false i j x (Option.Some (p, s)) r = refl
 
-performed_moves : (heard : Bool) (i j : ℕ) (s : Performed) (r : Release) → CallOf (participant_of r i) s
+performed_moves : (heard : Bool) (i j : ℕ) (s : Option Logged) (r : Release) → CallOf (participant_of r i) s
     → moves (participant_performed heard i j s r).outcome ≡ answerable (participant_of r i) s
-performed_moves heard i j Performed.Refused r c = refl
-performed_moves heard i j (Performed.Done x) r c =
+performed_moves heard i j Option.None r c = refl
+performed_moves heard i j (Option.Some x) r c =
     answered_moves heard i j x (Participant.on_answer (full r.n) i (participant_of r i) j x.answer) r ∙ answer_leads (full r.n) i j (participant_of r i) x.answer c
 
 -- the coordinator hears as a participant does in 4
@@ -177,19 +178,19 @@ heard_leads all h Yes = enters_leads (Coordinator.unless_full all h (Coordinator
 heard_leads all h Abort = refl
 heard_leads all h Commit = refl
 
-coordinator_answered_moves : (heard : Bool) (j : ℕ) (x : Logged) (t : CoordinatorTransition) (r : Release)
+coordinator_answered_moves : (heard : Bool) (j : ℕ) (x : Logged) (t : Transition Coordinator) (r : Release)
     → moves (coordinator_answered heard j x t r).outcome ≡ coordinator_leads t
-coordinator_answered_moves heard j x CoordinatorTransition.NotDue r = refl
-coordinator_answered_moves true j x (CoordinatorTransition.To c s) r = coordinator_due c s (called 0 j x.log r)
-coordinator_answered_moves false j x (CoordinatorTransition.To c s) r = refl
+coordinator_answered_moves heard j x Option.None r = refl
+coordinator_answered_moves true j x (Option.Some (c, s)) r = coordinator_due c s (called 0 j x.log r)
+coordinator_answered_moves false j x (Option.Some (c, s)) r = refl
 
-abbrev CoordinatorCallOf : Coordinator → Performed → Type 0
-CoordinatorCallOf c Performed.Refused = Unit {0}
-CoordinatorCallOf c (Performed.Done x) = (all j : ℕ) → coordinator_leads (Coordinator.on_answer all c j x.answer) ≡ can_get (Terminating 0) x.answer
+abbrev CoordinatorCallOf : Coordinator → Option Logged → Type 0
+CoordinatorCallOf c Option.None = Unit {0}
+CoordinatorCallOf c (Option.Some x) = (all j : ℕ) → coordinator_leads (Coordinator.on_answer all c j x.answer) ≡ can_get (Terminating 0) x.answer
 
-terminating_asks : (h : ℕ) (s : Performed) → CoordinatorCallOf (Coordinator.Terminating h) s
-terminating_asks h Performed.Refused = tt
-terminating_asks h (Performed.Done x) = λ all j. heard_leads all (insert j h) x.answer
+terminating_asks : (h : ℕ) (s : Option Logged) → CoordinatorCallOf (Coordinator.Terminating h) s
+terminating_asks h Option.None = tt
+terminating_asks h (Option.Some x) = λ all j. heard_leads all (insert j h) x.answer
 
 coordinator_pending_asks : (c : Coordinator) (j : ℕ) (l : LogPair) → CoordinatorCallOf c (perform (Coordinator.pending c j) l)
 coordinator_pending_asks Coordinator.Idle j l = tt
@@ -200,10 +201,10 @@ coordinator_pending_asks Coordinator.Abort j l = tt
 coordinator_pending_asks Coordinator.Down j l = tt
 coordinator_pending_asks Coordinator.Retired j l = tt
 
-coordinator_performed_moves : (heard : Bool) (j : ℕ) (s : Performed) (r : Release) → CoordinatorCallOf r.coordinator s
+coordinator_performed_moves : (heard : Bool) (j : ℕ) (s : Option Logged) (r : Release) → CoordinatorCallOf r.coordinator s
     → moves (coordinator_performed heard j s r).outcome ≡ answerable (Terminating 0) s
-coordinator_performed_moves heard j Performed.Refused r c = refl
-coordinator_performed_moves heard j (Performed.Done x) r c =
+coordinator_performed_moves heard j Option.None r c = refl
+coordinator_performed_moves heard j (Option.Some x) r c =
     coordinator_answered_moves heard j x (Coordinator.on_answer (full r.n) r.coordinator j x.answer) r ∙ c (full r.n) j
 
 call_moves : (heard : Bool) (p q : ℕ) (r : Release) → moves (calls heard p q r).outcome ≡ call_due r p q

@@ -4,6 +4,7 @@ use mathlib.Core.Bool.{Bool, true, false, cond, true≢false}
 use mathlib.Core.List.{List, [], ◌∷◌}
 use Prim.Native.Nat.{ℕ, zero, suc, ◌≤◌}
 use lib.ListN.{length}
+use Rattle.std.specs.Prelude.{Option}
 use Rattle.mask.specs.Mask.{full}
 use Rattle.participant.specs.Participant
 use Rattle.coordinator.specs.Coordinator
@@ -12,24 +13,24 @@ use Rattle.rules.specs.Report.{moves, known, coordinator_known, learnt}
 use Rattle.rules.specs.Step.{take_out, idle, moved, called, participant_to, participant_goes, coordinator_to, coordinator_goes, receive, calls, step}
 use Rattle.rules.specs.Run.{after}
 use Rattle.rules.specs.OneParty.{receiver, party_of, OthersStay, OnePartyMoves, knows_of, ReportedAsWritten, makes_call, LogsStay}
-use Rattle.rules.specs.Types.{Logged, Message, Sent, Participant, Transition, NotDue, To, Coordinator, CoordinatorTransition, Release, Step, Start, Deliver, Copy, Lose, Timeout, Crash, Restart, Outcome, Report}
+use Rattle.rules.specs.Types.{Logged, Message, Participant, Transition, Coordinator, Release, Step, Start, Deliver, Copy, Lose, Timeout, Crash, Restart, Outcome, Report}
 use Rattle.rules.proofs.Due.{known_moves, coordinator_moves, same_learnt}
 use Rattle.rules.proofs.Actions.{Only, only_none, participant_only, coordinator_only, placed, participant_calls_lem, coordinator_calls_lem}
 
-goes_only : (i : ℕ) (t : Transition) (r : Release) → Only (suc i) r (participant_goes i t r).next
-goes_only i NotDue r = only_none (suc i) r
-goes_only i (To p s) r = participant_only i p s r
+goes_only : (i : ℕ) (t : Transition Participant) (r : Release) → Only (suc i) r (participant_goes i t r).next
+goes_only i Option.None r = only_none (suc i) r
+goes_only i (Option.Some (p, s)) r = participant_only i p s r
 
-coordinator_goes_only : (t : CoordinatorTransition) (r : Release) → Only 0 r (coordinator_goes t r).next
-coordinator_goes_only CoordinatorTransition.NotDue r = only_none 0 r
-coordinator_goes_only (CoordinatorTransition.To c s) r = coordinator_only c s r
+coordinator_goes_only : (t : Transition Coordinator) (r : Release) → Only 0 r (coordinator_goes t r).next
+coordinator_goes_only Option.None r = only_none 0 r
+coordinator_goes_only (Option.Some (c, s)) r = coordinator_only c s r
 
 receive_only : (m : Message) (i : ℕ) (r : Release) → Only (receiver m (suc i)) r (receive m i r).next
-receive_only Message.Request i r = participant_only i _ Sent.Nothing r
+receive_only Message.Request i r = participant_only i _ Option.None r
 receive_only Message.ReplyYes i r = coordinator_goes_only (Coordinator.on_reply_yes (full r.n) i r.coordinator) r
 receive_only Message.ReplyAbort i r = coordinator_goes_only (Coordinator.on_reply_abort r.coordinator) r
-receive_only Message.Commit i r = participant_only i _ Sent.Nothing r
-receive_only Message.Abort i r = participant_only i _ Sent.Nothing r
+receive_only Message.Commit i r = participant_only i _ Option.None r
+receive_only Message.Abort i r = participant_only i _ Option.None r
 
 -- a message that is taken out changes no party, log or count
 after_taking : (p : ℕ) (m : Message) (i : ℕ) (r t : Release) → Only p (take_out m i r) t → Only p r t
@@ -113,15 +114,15 @@ moved_reports : (p : ℕ) (r : Release) → Outcome.Moved ≡ learnt (knows_of r
 moved_reports zero r = sym (same_learnt (coordinator_known r.coordinator) (coordinator_moves r.coordinator))
 moved_reports (suc i) r = sym (same_learnt (known (participant_of r i)) (known_moves (participant_of r i)))
 
-participant_reports : (i : ℕ) (p : Participant) (s : Sent) (r : Release) → suc i ≤ length r.sites → Reports (suc i) r (participant_to i p s r)
+participant_reports : (i : ℕ) (p : Participant) (s : Option Message) (r : Release) → suc i ≤ length r.sites → Reports (suc i) r (participant_to i p s r)
 unfolding participant_to
-participant_reports i p Sent.Nothing r l = ap (λ (x : Participant). learnt (known (participant_of r i)) (known x)) (sym (placed i p r l))
-participant_reports i p (Sent.Sends m) r l = ap (λ (x : Participant). learnt (known (participant_of r i)) (known x)) (sym (placed i p r l))
+participant_reports i p Option.None r l = ap (λ (x : Participant). learnt (known (participant_of r i)) (known x)) (sym (placed i p r l))
+participant_reports i p (Option.Some m) r l = ap (λ (x : Participant). learnt (known (participant_of r i)) (known x)) (sym (placed i p r l))
 
-coordinator_reports : (c : Coordinator) (s : Sent) (r : Release) → Reports 0 r (coordinator_to c s r)
+coordinator_reports : (c : Coordinator) (s : Option Message) (r : Release) → Reports 0 r (coordinator_to c s r)
 unfolding coordinator_to
-coordinator_reports c Sent.Nothing r = refl
-coordinator_reports c (Sent.Sends m) r = refl
+coordinator_reports c Option.None r = refl
+coordinator_reports c (Option.Some m) r = refl
 
 -- where it is due
 abbrev DueReports : ℕ → Release → Report → Type 0
@@ -130,20 +131,20 @@ DueReports p r t = moves t.outcome ≡ true → Reports p r t
 idle_reports : (p : ℕ) (r : Release) → DueReports p r (idle r)
 idle_reports p r d = absurd (true≢false (sym d))
 
-goes_reports : (i : ℕ) (t : Transition) (r : Release) → suc i ≤ length r.sites → DueReports (suc i) r (participant_goes i t r)
-goes_reports i NotDue r l = idle_reports (suc i) r
-goes_reports i (To p s) r l = λ d. participant_reports i p s r l
+goes_reports : (i : ℕ) (t : Transition Participant) (r : Release) → suc i ≤ length r.sites → DueReports (suc i) r (participant_goes i t r)
+goes_reports i Option.None r l = idle_reports (suc i) r
+goes_reports i (Option.Some (p, s)) r l = λ d. participant_reports i p s r l
 
-coordinator_goes_reports : (t : CoordinatorTransition) (r : Release) → DueReports 0 r (coordinator_goes t r)
-coordinator_goes_reports CoordinatorTransition.NotDue r = idle_reports 0 r
-coordinator_goes_reports (CoordinatorTransition.To c s) r = λ d. coordinator_reports c s r
+coordinator_goes_reports : (t : Transition Coordinator) (r : Release) → DueReports 0 r (coordinator_goes t r)
+coordinator_goes_reports Option.None r = idle_reports 0 r
+coordinator_goes_reports (Option.Some (c, s)) r = λ d. coordinator_reports c s r
 
 receive_reports : (m : Message) (i : ℕ) (r : Release) → receiver m (suc i) ≤ length r.sites → DueReports (receiver m (suc i)) r (receive m i r)
-receive_reports Message.Request i r l = λ d. participant_reports i _ Sent.Nothing r l
+receive_reports Message.Request i r l = λ d. participant_reports i _ Option.None r l
 receive_reports Message.ReplyYes i r l = coordinator_goes_reports (Coordinator.on_reply_yes (full r.n) i r.coordinator) r
 receive_reports Message.ReplyAbort i r l = coordinator_goes_reports (Coordinator.on_reply_abort r.coordinator) r
-receive_reports Message.Commit i r l = λ d. participant_reports i _ Sent.Nothing r l
-receive_reports Message.Abort i r l = λ d. participant_reports i _ Sent.Nothing r l
+receive_reports Message.Commit i r l = λ d. participant_reports i _ Option.None r l
+receive_reports Message.Abort i r l = λ d. participant_reports i _ Option.None r l
 
 -- a message that is taken out makes no difference to what a party knows
 taken_reports : (p : ℕ) (m : Message) (i : ℕ) (r : Release) (t : Report) → DueReports p (take_out m i r) t → DueReports p r t

@@ -6,6 +6,7 @@ use Prim.Native.Nat.{ℕ, zero, suc, ◌+◌, ◌≤◌, ◌<◌}
 use native.Mathlib.Omega.{arith}
 use lib.ListN.{length, get_or, set, replicate, length-replicate, replicate-append-replicate}
 use lib.Seq.{set-append_left}
+use Rattle.std.specs.Prelude.{Option}
 use Rattle.store.specs.Log.{empty, perform}
 use Rattle.kind.specs.Step.{in_range, AllInRange}
 use Rattle.mask.specs.Mask.{has, full}
@@ -16,7 +17,7 @@ use Rattle.rules.specs.Step.{idle, moved, send, take_out, with_participant, part
 use Rattle.rules.specs.Report.{known, learnt, closes, with_closed, step_byte}
 use Rattle.rules.specs.Run.{reports, after}
 use Rattle.rules.specs.Places.{widened, PlacesSame}
-use Rattle.rules.specs.Types.{LogPair, Logged, Performed, Message, Sent, Decision, Participant, Transition, NotDue, To, Coordinator, CoordinatorTransition, Site, Release, Step, Start, Deliver, Copy, Lose, Timeout, Crash, Restart, Report}
+use Rattle.rules.specs.Types.{LogPair, Logged, Message, Decision, Participant, Transition, Coordinator, Site, Release, Step, Start, Deliver, Copy, Lose, Timeout, Crash, Restart, Report}
 use Rattle.rules.proofs.Agreement.{replicate_all}
 use Rattle.rules.proofs.Bounds.{Bounds, bounds}
 use Rattle.rules.proofs.Causes.{cause}
@@ -48,35 +49,35 @@ module _ (k : ℕ) where
       ap (λ (x : List Site). record { n = r.n; votes = r.votes; coordinator = r.coordinator; messages = r.messages; sites = x; store = record { logs = r.store.logs ++ replicate k empty }; calls = r.calls ++ replicate k 0 })
       (set-append_left r.sites (replicate k waiting) i (record { participant = p }) l)
 
-  to_widened : (i : ℕ) (p : Participant) (s : Sent) (r : Release) → i < length r.sites → participant_to i p s (widened k r) ≡ widened_report k (participant_to i p s r)
+  to_widened : (i : ℕ) (p : Participant) (s : Option Message) (r : Release) → i < length r.sites → participant_to i p s (widened k r) ≡ widened_report k (participant_to i p s r)
   unfolding participant_to
-  to_widened i p Sent.Nothing r l =
+  to_widened i p Option.None r l =
       ap₂ (λ (q : Participant) (x : Release). record { outcome = learnt (known q) (known p); closed = false; next = x }) (participant_same r i) (placed i p r l)
-  to_widened i p (Sent.Sends m) r l =
+  to_widened i p (Option.Some m) r l =
       ap₂ (λ (q : Participant) (x : Release). record { outcome = learnt (known q) (known p); closed = false; next = x }) (participant_same r i) (placed i p (send m i r) l)
 
-  goes_widened : (i : ℕ) (t : Transition) (r : Release) → i < length r.sites → participant_goes i t (widened k r) ≡ widened_report k (participant_goes i t r)
-  goes_widened i NotDue r l = refl
-  goes_widened i (To p s) r l = to_widened i p s r l
+  goes_widened : (i : ℕ) (t : Transition Participant) (r : Release) → i < length r.sites → participant_goes i t (widened k r) ≡ widened_report k (participant_goes i t r)
+  goes_widened i Option.None r l = refl
+  goes_widened i (Option.Some (p, s)) r l = to_widened i p s r l
 
-  led : (c : Coordinator) (s : Sent) (r : Release) → coordinator_to c s (widened k r) ≡ widened_report k (coordinator_to c s r)
+  led : (c : Coordinator) (s : Option Message) (r : Release) → coordinator_to c s (widened k r) ≡ widened_report k (coordinator_to c s r)
   unfolding coordinator_to
-  led c Sent.Nothing r = refl
-  led c (Sent.Sends m) r = refl
+  led c Option.None r = refl
+  led c (Option.Some m) r = refl
 
-  leads : (t : CoordinatorTransition) (r : Release) → coordinator_goes t (widened k r) ≡ widened_report k (coordinator_goes t r)
-  leads CoordinatorTransition.NotDue r = refl
-  leads (CoordinatorTransition.To c s) r = led c s r
+  leads : (t : Transition Coordinator) (r : Release) → coordinator_goes t (widened k r) ≡ widened_report k (coordinator_goes t r)
+  leads Option.None r = refl
+  leads (Option.Some (c, s)) r = led c s r
 
   received : (m : Message) (i : ℕ) (r : Release) → i < length r.sites → receive m i (widened k r) ≡ widened_report k (receive m i r)
   received Message.Request i r l =
-      ap (λ (p : Participant). participant_to i (Participant.on_request (has i r.votes) p) Sent.Nothing (widened k r)) (participant_same r i) ∙ to_widened i _ Sent.Nothing r l
+      ap (λ (p : Participant). participant_to i (Participant.on_request (has i r.votes) p) Option.None (widened k r)) (participant_same r i) ∙ to_widened i _ Option.None r l
   received Message.ReplyYes i r l = leads (Coordinator.on_reply_yes (full r.n) i r.coordinator) r
   received Message.ReplyAbort i r l = leads (Coordinator.on_reply_abort r.coordinator) r
   received Message.Commit i r l =
-      ap (λ (p : Participant). participant_to i (Participant.on_decision Decision.Commit p) Sent.Nothing (widened k r)) (participant_same r i) ∙ to_widened i _ Sent.Nothing r l
+      ap (λ (p : Participant). participant_to i (Participant.on_decision Decision.Commit p) Option.None (widened k r)) (participant_same r i) ∙ to_widened i _ Option.None r l
   received Message.Abort i r l =
-      ap (λ (p : Participant). participant_to i (Participant.on_decision Decision.Abort p) Sent.Nothing (widened k r)) (participant_same r i) ∙ to_widened i _ Sent.Nothing r l
+      ap (λ (p : Participant). participant_to i (Participant.on_decision Decision.Abort p) Option.None (widened k r)) (participant_same r i) ∙ to_widened i _ Option.None r l
 
   called_widened : (p j : ℕ) (l : LogPair) (r : Release) → p < length r.calls → j < length r.store.logs → called p j l (widened k r) ≡ widened k (called p j l r)
   called_widened p j l r g h =
@@ -85,14 +86,14 @@ module _ (k : ℕ) where
       (ap (λ c. set (r.calls ++ replicate k 0) p (c + 1)) (padded r.calls k p 0) ∙ set-append_left r.calls (replicate k 0) p (get_or r.calls p 0 + 1) g)
 
   module _ (i j : ℕ) (r : Release) (a : i < length r.sites) (b : suc i < length r.calls) (c : j < length r.store.logs) where
-    answered : (heard : Bool) (x : Logged) (t : Transition) → participant_answered heard i j x t (widened k r) ≡ widened_report k (participant_answered heard i j x t r)
-    answered heard x NotDue = refl
-    answered true x (To p s) = ap (with_closed (closes (suc i) j x)) (ap (participant_to i p s) (called_widened (suc i) j x.log r b c) ∙ to_widened i p s (called (suc i) j x.log r) a)
-    answered false x (To p s) = ap (λ (t : Release). with_closed (closes (suc i) j x) (moved t)) (called_widened (suc i) j x.log r b c)
+    answered : (heard : Bool) (x : Logged) (t : Transition Participant) → participant_answered heard i j x t (widened k r) ≡ widened_report k (participant_answered heard i j x t r)
+    answered heard x Option.None = refl
+    answered true x (Option.Some (p, s)) = ap (with_closed (closes (suc i) j x)) (ap (participant_to i p s) (called_widened (suc i) j x.log r b c) ∙ to_widened i p s (called (suc i) j x.log r) a)
+    answered false x (Option.Some (p, s)) = ap (λ (t : Release). with_closed (closes (suc i) j x) (moved t)) (called_widened (suc i) j x.log r b c)
 
-    performed : (heard : Bool) (x : Performed) → participant_performed heard i j x (widened k r) ≡ widened_report k (participant_performed heard i j x r)
-    performed heard Performed.Refused = refl
-    performed heard (Performed.Done x) =
+    performed : (heard : Bool) (x : Option Logged) → participant_performed heard i j x (widened k r) ≡ widened_report k (participant_performed heard i j x r)
+    performed heard Option.None = refl
+    performed heard (Option.Some x) =
         ap (λ (p : Participant). participant_answered heard i j x (Participant.on_answer (full r.n) i p j x.answer) (widened k r)) (participant_same r i)
         ∙ answered heard x (Participant.on_answer (full r.n) i (participant_of r i) j x.answer)
 
@@ -103,14 +104,14 @@ module _ (k : ℕ) where
         ∙ performed heard (perform (Participant.pending i (participant_of r i) j) (log_of r j))
 
   module _ (j : ℕ) (r : Release) (b : 0 < length r.calls) (c : j < length r.store.logs) where
-    lead_answered : (heard : Bool) (x : Logged) (t : CoordinatorTransition) → coordinator_answered heard j x t (widened k r) ≡ widened_report k (coordinator_answered heard j x t r)
-    lead_answered heard x CoordinatorTransition.NotDue = refl
-    lead_answered true x (CoordinatorTransition.To p s) = ap (with_closed (closes 0 j x)) (ap (coordinator_to p s) (called_widened 0 j x.log r b c) ∙ led p s (called 0 j x.log r))
-    lead_answered false x (CoordinatorTransition.To p s) = ap (λ (t : Release). with_closed (closes 0 j x) (moved t)) (called_widened 0 j x.log r b c)
+    lead_answered : (heard : Bool) (x : Logged) (t : Transition Coordinator) → coordinator_answered heard j x t (widened k r) ≡ widened_report k (coordinator_answered heard j x t r)
+    lead_answered heard x Option.None = refl
+    lead_answered true x (Option.Some (p, s)) = ap (with_closed (closes 0 j x)) (ap (coordinator_to p s) (called_widened 0 j x.log r b c) ∙ led p s (called 0 j x.log r))
+    lead_answered false x (Option.Some (p, s)) = ap (λ (t : Release). with_closed (closes 0 j x) (moved t)) (called_widened 0 j x.log r b c)
 
-    lead_performed : (heard : Bool) (x : Performed) → coordinator_performed heard j x (widened k r) ≡ widened_report k (coordinator_performed heard j x r)
-    lead_performed heard Performed.Refused = refl
-    lead_performed heard (Performed.Done x) = lead_answered heard x (Coordinator.on_answer (full r.n) r.coordinator j x.answer)
+    lead_performed : (heard : Bool) (x : Option Logged) → coordinator_performed heard j x (widened k r) ≡ widened_report k (coordinator_performed heard j x r)
+    lead_performed heard Option.None = refl
+    lead_performed heard (Option.Some x) = lead_answered heard x (Coordinator.on_answer (full r.n) r.coordinator j x.answer)
 
     lead_calls : (heard : Bool) → coordinator_calls heard j (widened k r) ≡ widened_report k (coordinator_calls heard j r)
     unfolding coordinator_calls

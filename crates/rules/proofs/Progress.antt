@@ -8,6 +8,7 @@ use native.Mathlib.Nat.{le_trans, le_refl}
 use native.Mathlib.Decide.{ℕ_discrete}
 use lib.Dec.{eqb-zero-suc}
 use borrow.Author.Tests.{ne_eqb}
+use Rattle.std.specs.Prelude.{Option}
 use Rattle.kind.specs.Step.{AllInRange}
 use Rattle.mask.specs.Mask.{has, full}
 use Rattle.participant.specs.Participant
@@ -17,7 +18,7 @@ use Rattle.rules.specs.Report.{moves}
 use Rattle.rules.specs.Step.{called, take_out, reply, participant_to, coordinator_to, coordinator_goes, receive, step}
 use Rattle.rules.specs.Run.{after}
 use Rattle.rules.specs.Demand.{is_call_of, answered, AllUndisturbed}
-use Rattle.rules.specs.Types.{Logged, Participant, Terminating, Site, Sent, Decision, To, Coordinator, CoordinatorTransition, Message, Step, Start, Deliver, Copy, Timeout, Crash, Restart, Outcome, Release, Report}
+use Rattle.rules.specs.Types.{Logged, Participant, Terminating, Site, Message, Decision, Coordinator, Transition, Step, Start, Deliver, Copy, Timeout, Crash, Restart, Outcome, Release, Report}
 use Rattle.rules.proofs.FirstRecords.{true_false}
 use Rattle.rules.proofs.Invariant.{Inv}
 use Rattle.rules.proofs.Updates.{set_all, Good, take_out_inv}
@@ -31,11 +32,11 @@ use Rattle.rules.proofs.Actions.{participant_goes_to}
 
 -- the participants after one of them went to p
 
-reply_sites : (s : Sent) (i : ℕ) (r : Release) → (reply s i r).sites ≡ r.sites
-reply_sites Sent.Nothing i r = refl
-reply_sites (Sent.Sends m) i r = refl
+reply_sites : (s : Option Message) (i : ℕ) (r : Release) → (reply s i r).sites ≡ r.sites
+reply_sites Option.None i r = refl
+reply_sites (Option.Some m) i r = refl
 
-pub entered : (P : Participant → Type 0) (r : Release) (k i : ℕ) (p : Participant) (s : Sent)
+pub entered : (P : Participant → Type 0) (r : Release) (k i : ℕ) (p : Participant) (s : Option Message)
     → P (participant_of r i) → (k ≡ i → P p) → P (participant_of (participant_to k p s r).next i)
 unfolding participant_to
 entered P r k i p s old new =
@@ -44,14 +45,14 @@ entered P r k i p s old new =
 
 -- the coordinator moves no participant
 
-pub coordinator_sites : (c : Coordinator) (s : Sent) (r : Release) → (coordinator_to c s r).next.sites ≡ r.sites
+pub coordinator_sites : (c : Coordinator) (s : Option Message) (r : Release) → (coordinator_to c s r).next.sites ≡ r.sites
 unfolding coordinator_to
-coordinator_sites c Sent.Nothing r = refl
-coordinator_sites c (Sent.Sends m) r = refl
+coordinator_sites c Option.None r = refl
+coordinator_sites c (Option.Some m) r = refl
 
-pub coordinator_goes_sites : (t : CoordinatorTransition) (r : Release) → (coordinator_goes t r).next.sites ≡ r.sites
-coordinator_goes_sites CoordinatorTransition.NotDue r = refl
-coordinator_goes_sites (CoordinatorTransition.To c s) r = coordinator_sites c s r
+pub coordinator_goes_sites : (t : Transition Coordinator) (r : Release) → (coordinator_goes t r).next.sites ≡ r.sites
+coordinator_goes_sites Option.None r = refl
+coordinator_goes_sites (Option.Some (c, s)) r = coordinator_sites c s r
 
 -- no step raises the rank of an undisturbed participant i
 
@@ -62,7 +63,7 @@ module _ (r : Release) (i : ℕ) where
   abbrev Falls : Report → Type 0
   Falls t = rank r.n (participant_of t.next i) ≤ now
 
-  enter_falls : (k : ℕ) (p : Participant) (s : Sent) → (k ≡ i → rank r.n p ≤ now) → Falls (participant_to k p s r)
+  enter_falls : (k : ℕ) (p : Participant) (s : Option Message) → (k ≡ i → rank r.n p ≤ now) → Falls (participant_to k p s r)
   enter_falls k p s h = entered (λ x. rank r.n x ≤ now) r k i p s (le_refl now) h
 
   still_falls : (t : Report) → t.next.sites ≡ r.sites → Falls t
@@ -72,16 +73,16 @@ module _ (r : Release) (i : ℕ) where
 
 receive_falls : (r : Release) (i : ℕ) → i < r.n → Inv r → (m : Message) (k : ℕ) → Falls r i (receive m k r)
 receive_falls r i h v Message.Request k =
-    enter_falls r i k (Participant.on_request (has k r.votes) (participant_of r k)) Sent.Nothing (λ q. rw q (request_rank r.n i h (has i r.votes) (participant_of r i)))
+    enter_falls r i k (Participant.on_request (has k r.votes) (participant_of r k)) Option.None (λ q. rw q (request_rank r.n i h (has i r.votes) (participant_of r i)))
 receive_falls r i h v Message.ReplyYes k =
     still_falls r i (receive Message.ReplyYes k r) (coordinator_goes_sites (Coordinator.on_reply_yes (full r.n) k r.coordinator) r)
 receive_falls r i h v Message.ReplyAbort k =
     still_falls r i (receive Message.ReplyAbort k r) (coordinator_goes_sites (Coordinator.on_reply_abort r.coordinator) r)
 receive_falls r i h v Message.Commit k =
-    enter_falls r i k (Participant.on_decision Decision.Commit (participant_of r k)) Sent.Nothing
+    enter_falls r i k (Participant.on_decision Decision.Commit (participant_of r k)) Option.None
     (λ q. rw q (decision_rank r.n i h (first_of r) Decision.Commit (participant_of r i) (v.knows i h)))
 receive_falls r i h v Message.Abort k =
-    enter_falls r i k (Participant.on_decision Decision.Abort (participant_of r k)) Sent.Nothing
+    enter_falls r i k (Participant.on_decision Decision.Abort (participant_of r k)) Option.None
     (λ q. rw q (decision_rank r.n i h (first_of r) Decision.Abort (participant_of r i) (v.knows i h)))
 
 -- what an undisturbed participant's rank loses to a step
@@ -100,11 +101,11 @@ Loses r i s t = counted i s t.outcome + rank r.n (participant_of t.next i) ≤ r
 free : (r : Release) (i : ℕ) (s : Step) (t : Report) → is_call_of i s ≡ false → Falls r i t → Loses r i s t
 free r i s t q f = rw q (omega arith)
 
-coordinator_free : (r r' : Release) (i : ℕ) (s : Step) (c : Coordinator) (x : Sent) → is_call_of i s ≡ false → r'.sites ≡ r.sites
+coordinator_free : (r r' : Release) (i : ℕ) (s : Step) (c : Coordinator) (x : Option Message) → is_call_of i s ≡ false → r'.sites ≡ r.sites
     → Loses r i s (coordinator_to c x r')
 coordinator_free r r' i s c x q e = free r i s (coordinator_to c x r') q (still_falls r i (coordinator_to c x r') (coordinator_sites c x r' ∙ e))
 
-call_loses : (r : Release) (i k j : ℕ) (l : Logged) (p : Participant) (x : Sent) → i < r.n → k < r.n → j < r.n → Inv r → ParticipantCall r k j l p x → Dec (k ≡ i)
+call_loses : (r : Release) (i k j : ℕ) (l : Logged) (p : Participant) (x : Option Message) → i < r.n → k < r.n → j < r.n → Inv r → ParticipantCall r k j l p x → Dec (k ≡ i)
     → Loses r i (Step.Call (suc k) (suc j)) (participant_to k p x (called (suc k) j l.log r))
 call_loses r i k j l p x hi hk hj v a (no ne) =
     free r i (Step.Call (suc k) (suc j)) (participant_to k p x (called (suc k) j l.log r)) (ne_eqb (suc k) (suc i) (λ e. ne (omega arith)))
@@ -147,7 +148,7 @@ caused_loses r i (times_out {i = k} {p} {x} q) h g v c =
   where
     lower : k ≡ i → rank r.n p ≤ rank r.n (participant_of r i)
     lower e =
-        let q' : Participant.on_timeout (full r.n) i (participant_of r i) ≡ To p x = rw e at q in
+        let q' : Participant.on_timeout (full r.n) i (participant_of r i) ≡ Option.Some (p, x) = rw e at q in
         rw q' at (timeout_rank r.n i h (participant_of r i) (λ m y. true_false (participant_due k p x r) (c.timeout m (ap (λ (z : ℕ). Timeout (suc z)) e) y)))
 caused_loses r i (crashes {i = k} {p} {x} q) h g v c =
     free r i (Crash (suc k)) (participant_to k p x r) refl
@@ -156,7 +157,7 @@ caused_loses r i (restarts {i = k} {p} {x} q) h g v c = free r i (Restart (suc k
   where
     lower : k ≡ i → rank r.n p ≤ rank r.n (participant_of r i)
     lower e =
-        let q' : Participant.on_restart (participant_of r i) ≡ To p x = rw e at q in
+        let q' : Participant.on_restart (participant_of r i) ≡ Option.Some (p, x) = rw e at q in
         rw q' at (restart_rank r.n i h (participant_of r i))
 caused_loses r i (coordinator_times_out {c = d} {x} q) h g v c = coordinator_free r r i (Timeout zero) d x refl refl
 caused_loses r i (coordinator_crashes {c = d} {x} q) h g v c = coordinator_free r r i (Crash zero) d x refl refl

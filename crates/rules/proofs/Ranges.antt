@@ -6,10 +6,11 @@ use Prim.Native.Nat.{ℕ, ◌^◌, ◌≤◌, ◌<◌}
 use lib.Dec.{eqb}
 use lib.Pow.{pow_pos}
 use borrow.Author.Tests.{eqb-true, eqb-false, ne_eqb, not-true}
+use Rattle.std.specs.Prelude.{Option}
 use Rattle.number.proofs.Laws.{and_left, and_right, and_true}
 use Rattle.mask.specs.Mask.{has, insert, full, within}
 use Rattle.mask.proofs.Laws.{lt_within, within_lt, insert_lt, full_more, has_zero, has_full, has_insert_other, has_insert_neither, not_inserted}
-use Rattle.rules.specs.Types.{LogRecord, None, Yes, Abort, Commit, Call, Decision, Participant, Waiting, VotingYes, Closing, Uncertain, Terminating, RecordingCommit, RecordingAbort, DoneCommit, DoneAbort, Down, Transition, NotDue, To, Coordinator, CoordinatorTransition}
+use Rattle.rules.specs.Types.{LogRecord, None, Yes, Abort, Commit, Call, Decision, Participant, Waiting, VotingYes, Closing, Uncertain, Terminating, RecordingCommit, RecordingAbort, DoneCommit, DoneAbort, Down, Transition, Coordinator}
 use Rattle.participant.specs.Participant
 use Rattle.coordinator.specs.Coordinator
 use Rattle.rules.proofs.Cases.{cond_cases, answer_cases, request_cases, decision_cases, timeout_cases, reply_yes_cases, reply_abort_cases, coordinator_answer_cases, enters_cases}
@@ -104,13 +105,13 @@ Guard i DoneCommit j = ⊥
 Guard i DoneAbort j = ⊥
 Guard i Down j = ⊥
 
-abbrev pub Guarded : ℕ → Participant → ℕ → Call → Type 0
-Guarded i p j Call.None = Unit {0}
-Guarded i p j (Call.LogOnce r) = Guard i p j
-Guarded i p j (Call.Log r) = Guard i p j
+abbrev pub Guarded : ℕ → Participant → ℕ → Option Call → Type 0
+Guarded i p j Option.None = Unit {0}
+Guarded i p j (Option.Some (Call.LogOnce r)) = Guard i p j
+Guarded i p j (Option.Some (Call.Log r)) = Guard i p j
 
-own_guarded : (i j : ℕ) (p : Participant) (c : Call) → (j ≡ i → Guarded i p j c) → Guarded i p j (Participant.own_call i j c)
-own_guarded i j p c f = cond_cases (Guarded i p j) (eqb j i) c Call.None (λ t. f (eqb-true j i t)) (λ t. tt)
+own_guarded : (i j : ℕ) (p : Participant) (c : Call) → (j ≡ i → Guarded i p j (Option.Some c)) → Guarded i p j (Participant.own_call i j c)
+own_guarded i j p c f = cond_cases (Guarded i p j) (eqb j i) (Option.Some c) Option.None (λ t. f (eqb-true j i t)) (λ t. tt)
 
 pub pending_guarded : (i : ℕ) (p : Participant) (j : ℕ) → Guarded i p j (Participant.pending i p j)
 pending_guarded i Waiting j = tt
@@ -118,7 +119,7 @@ pending_guarded i VotingYes j = own_guarded i j VotingYes (Call.LogOnce Yes) (λ
 pending_guarded i Closing j = own_guarded i j Closing (Call.LogOnce Abort) (λ e. e)
 pending_guarded i Uncertain j = tt
 pending_guarded i (Terminating h) j =
-    cond_cases (Guarded i (Terminating h) j) (eqb j i || has j h) Call.None (Call.LogOnce Abort) (λ t. tt) (λ t. has_insert_neither i j h t)
+    cond_cases (Guarded i (Terminating h) j) (eqb j i || has j h) Option.None (Option.Some (Call.LogOnce Abort)) (λ t. tt) (λ t. has_insert_neither i j h t)
 pending_guarded i RecordingCommit j = own_guarded i j RecordingCommit (Call.Log Commit) (λ e. e)
 pending_guarded i RecordingAbort j = own_guarded i j RecordingAbort (Call.Log Abort) (λ e. e)
 pending_guarded i DoneCommit j = tt
@@ -127,13 +128,13 @@ pending_guarded i Down j = tt
 
 -- the rules
 
-abbrev pub ToInRange : ℕ → ℕ → Transition → Type 0
-ToInRange n i NotDue = Unit {0}
-ToInRange n i (To p s) = ParticipantInRange n i p
+abbrev pub ToInRange : ℕ → ℕ → Transition Participant → Type 0
+ToInRange n i Option.None = Unit {0}
+ToInRange n i (Option.Some (p, s)) = ParticipantInRange n i p
 
-abbrev pub CoordinatorToInRange : ℕ → CoordinatorTransition → Type 0
-CoordinatorToInRange n CoordinatorTransition.NotDue = Unit {0}
-CoordinatorToInRange n (CoordinatorTransition.To c s) = CoordinatorInRange n c
+abbrev pub CoordinatorToInRange : ℕ → Transition Coordinator → Type 0
+CoordinatorToInRange n Option.None = Unit {0}
+CoordinatorToInRange n (Option.Some (c, s)) = CoordinatorInRange n c
 
 module _ (n i : ℕ) (lt : i < n) where
   terminating_range : (h : ℕ) → h < 2 ^ n → has i h ≡ false → ParticipantInRange n i (Participant.terminating (full n) i h)

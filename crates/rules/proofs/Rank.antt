@@ -5,11 +5,12 @@ use Prim.Native.Nat.{ℕ, suc, ◌+◌, ◌-◌, ◌≤◌, ◌<◌}
 use native.Mathlib.Omega.{arith}
 use native.Mathlib.Nat.{le_refl}
 use lib.Dec.{eqb}
+use Rattle.std.specs.Prelude.{Option}
 use Rattle.mask.specs.Mask.{has, insert, full}
 use Rattle.mask.proofs.Laws.{size, size_le, size_insert, bit_of_has, not_member}
 use Rattle.participant.specs.Participant
 use Rattle.rules.proofs.Cases.{cond_cases, answer_cases, request_cases, decision_cases, timeout_cases, restart_cases}
-use Rattle.rules.specs.Types.{LogRecord, Decision, Participant, Waiting, VotingYes, Closing, Uncertain, Terminating, RecordingCommit, RecordingAbort, DoneCommit, DoneAbort, Down, Transition, NotDue, To}
+use Rattle.rules.specs.Types.{LogRecord, Decision, Participant, Waiting, VotingYes, Closing, Uncertain, Terminating, RecordingCommit, RecordingAbort, DoneCommit, DoneAbort, Down, Transition}
 use Rattle.rules.proofs.FirstRecords.{Termination}
 use Rattle.rules.proofs.Invariant.{Knows}
 use Rattle.rules.proofs.Ranges.{Guard}
@@ -28,9 +29,9 @@ rank n DoneAbort = 0
 rank n Down = n + 2
 
 -- a transition that leaves at most k calls
-abbrev pub Within : ℕ → ℕ → Transition → Type 0
-Within n k NotDue = Unit {0}
-Within n k (To p s) = rank n p ≤ k
+abbrev pub Within : ℕ → ℕ → Transition Participant → Type 0
+Within n k Option.None = Unit {0}
+Within n k (Option.Some (p, s)) = rank n p ≤ k
 
 module _ (n i : ℕ) (lt : i < n) where
   -- one's own log is never heard, so a participant that terminates has a call left

@@ -7,6 +7,7 @@ use Prim.Native.Nat.{ℕ, suc, ◌+◌, ◌^◌, ◌≤◌, ◌<◌}
 use native.Mathlib.Omega.{arith}
 use lib.Pow.{pow_pos}
 use lib.ListN.{get_or}
+use Rattle.std.specs.Prelude.{Option}
 use Rattle.kind.specs.Step.{AllInRange}
 use Rattle.mask.specs.Mask.{has, insert, remove, full}
 use Rattle.mask.proofs.Laws.{lt_within, within_lt, insert_lt, remove_le, full_lt}
@@ -19,7 +20,7 @@ use Rattle.rules.specs.State.{participant_of, participant_at, log_of, log_at, fi
 use Rattle.rules.specs.Step.{called, send, send_all, take_out, with_mask, with_participant, participant_to, with_coordinator, coordinator_to, coordinator_goes, receive, step}
 use Rattle.rules.specs.Run.{after}
 use Rattle.rules.specs.Range.{ReleaseInRange, ReachedInRange, LogsKept, ReachedKept}
-use Rattle.rules.specs.Types.{LogRecord, None, Yes, Abort, Commit, LogPair, Participant, Waiting, Site, Sent, Decision, Coordinator, CoordinatorTransition, Message, Step, Release, Report}
+use Rattle.rules.specs.Types.{LogRecord, None, Yes, Abort, Commit, LogPair, Participant, Waiting, Site, Message, Decision, Coordinator, Transition, Step, Release, Report}
 use Rattle.rules.proofs.FirstRecords.{Keep}
 use Rattle.rules.proofs.Invariant.{Inv, Allowed}
 use Rattle.rules.proofs.Updates.{set_all, mask_all, Good}
@@ -76,10 +77,10 @@ participant_ranged r i p l b h =
       calls_beyond = b.calls_beyond;
     }
 
-to_ranged : (r : Release) (i : ℕ) (p : Participant) (s : Sent) → i < r.n → Ranged r → ParticipantInRange r.n i p → Ranged (participant_to i p s r).next
+to_ranged : (r : Release) (i : ℕ) (p : Participant) (s : Option Message) → i < r.n → Ranged r → ParticipantInRange r.n i p → Ranged (participant_to i p s r).next
 unfolding participant_to
-to_ranged r i p Sent.Nothing l b h = participant_ranged r i p l b h
-to_ranged r i p (Sent.Sends m) l b h = participant_ranged (send m i r) i p l (send_ranged r m i l b) h
+to_ranged r i p Option.None l b h = participant_ranged r i p l b h
+to_ranged r i p (Option.Some m) l b h = participant_ranged (send m i r) i p l (send_ranged r m i l b) h
 
 with_coordinator_ranged : (r : Release) (c : Coordinator) → Ranged r → CoordinatorInRange r.n c → Ranged (with_coordinator c r)
 with_coordinator_ranged r c b h =
@@ -94,10 +95,10 @@ with_coordinator_ranged r c b h =
       calls_beyond = b.calls_beyond;
     }
 
-coordinator_ranged : (r : Release) (c : Coordinator) (s : Sent) → Ranged r → CoordinatorInRange r.n c → Ranged (coordinator_to c s r).next
+coordinator_ranged : (r : Release) (c : Coordinator) (s : Option Message) → Ranged r → CoordinatorInRange r.n c → Ranged (coordinator_to c s r).next
 unfolding coordinator_to
-coordinator_ranged r c Sent.Nothing b h = with_coordinator_ranged r c b h
-coordinator_ranged r c (Sent.Sends m) b h = with_coordinator_ranged (send_all m r) c (mask_ranged r m (full r.n) b (full_lt r.n)) h
+coordinator_ranged r c Option.None b h = with_coordinator_ranged r c b h
+coordinator_ranged r c (Option.Some m) b h = with_coordinator_ranged (send_all m r) c (mask_ranged r m (full r.n) b (full_lt r.n)) h
 
 called_ranged : (r : Release) (p j : ℕ) (l : LogPair) → p ≤ r.n → j < r.n → Ranged r → Ranged (called p j l r)
 called_ranged r p j l hp hj b =
@@ -114,22 +115,22 @@ called_ranged r p j l hp hj b =
 
 -- the steps
 
-goes_ranged : (r : Release) (t : CoordinatorTransition) → Ranged r → CoordinatorToInRange r.n t → Ranged (coordinator_goes t r).next
-goes_ranged r CoordinatorTransition.NotDue b k = b
-goes_ranged r (CoordinatorTransition.To c s) b k = coordinator_ranged r c s b k
+goes_ranged : (r : Release) (t : Transition Coordinator) → Ranged r → CoordinatorToInRange r.n t → Ranged (coordinator_goes t r).next
+goes_ranged r Option.None b k = b
+goes_ranged r (Option.Some (c, s)) b k = coordinator_ranged r c s b k
 
 receive_ranged : (r : Release) (m : Message) (i : ℕ) → i < r.n → Ranged r → Ranged (receive m i r).next
 receive_ranged r Message.Request i h b =
-    to_ranged r i (Participant.on_request (has i r.votes) (participant_of r i)) Sent.Nothing h b
+    to_ranged r i (Participant.on_request (has i r.votes) (participant_of r i)) Option.None h b
     (request_range r.n i h (has i r.votes) (participant_of r i) (b.participants i h))
 receive_ranged r Message.ReplyYes i h b =
     goes_ranged r (Coordinator.on_reply_yes (full r.n) i r.coordinator) b (reply_yes_range r.n i h r.coordinator b.coordinator)
 receive_ranged r Message.ReplyAbort i h b =
     goes_ranged r (Coordinator.on_reply_abort r.coordinator) b (reply_abort_range r.n r.coordinator b.coordinator)
 receive_ranged r Message.Commit i h b =
-    to_ranged r i (Participant.on_decision Decision.Commit (participant_of r i)) Sent.Nothing h b (decision_range r.n i h Decision.Commit (participant_of r i) (b.participants i h))
+    to_ranged r i (Participant.on_decision Decision.Commit (participant_of r i)) Option.None h b (decision_range r.n i h Decision.Commit (participant_of r i) (b.participants i h))
 receive_ranged r Message.Abort i h b =
-    to_ranged r i (Participant.on_decision Decision.Abort (participant_of r i)) Sent.Nothing h b (decision_range r.n i h Decision.Abort (participant_of r i) (b.participants i h))
+    to_ranged r i (Participant.on_decision Decision.Abort (participant_of r i)) Option.None h b (decision_range r.n i h Decision.Abort (participant_of r i) (b.participants i h))
 
 caused_ranged : (r : Release) {s : Step} {t : Report} → Cause r s t → Bounds r.n s → Inv r → Ranged r → Ranged t.next
 caused_ranged r idles h v b = b

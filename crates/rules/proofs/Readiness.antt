@@ -6,6 +6,7 @@ use Prim.Native.Nat.{ℕ, suc, ◌+◌, ◌≤◌, ◌<◌}
 use native.Mathlib.Omega.{arith}
 use lib.Dec.{eqb}
 use borrow.Author.Tests.{eq-eqb}
+use Rattle.std.specs.Prelude.{Option}
 use Rattle.mask.specs.Mask.{full}
 use Rattle.store.specs.Log.{perform}
 use Rattle.participant.specs.Participant
@@ -13,7 +14,7 @@ use Rattle.rules.specs.State.{participant_of, log_of, first_of, last_of}
 use Rattle.rules.specs.Report.{moves}
 use Rattle.rules.specs.Step.{called, participant_answered, participant_performed, participant_calls}
 use Rattle.rules.specs.Demand.{EveryYes, SomeAbort, Up, Holds, Ready}
-use Rattle.rules.specs.Types.{LogRecord, None, Yes, Abort, Commit, Call, Logged, Performed, Participant, Waiting, VotingYes, Closing, Uncertain, Terminating, RecordingCommit, RecordingAbort, DoneCommit, DoneAbort, Down, Transition, NotDue, To, Release}
+use Rattle.rules.specs.Types.{LogRecord, None, Yes, Abort, Commit, Call, Logged, Participant, Waiting, VotingYes, Closing, Uncertain, Terminating, RecordingCommit, RecordingAbort, DoneCommit, DoneAbort, Down, Transition, Release}
 use Rattle.rules.proofs.FirstRecords.{excluded}
 use Rattle.rules.proofs.Invariant.{Knows, Ends, Allowed, Inv}
 use Rattle.rules.proofs.Rank.{rank, own_left}
@@ -21,12 +22,12 @@ use Rattle.rules.proofs.Due.{IsTo, participant_due, goes_due}
 
 -- the own call answers in a way that the state can get
 
-abbrev AnswerDue : ℕ → ℕ → Participant → Performed → Type 0
-AnswerDue n i p Performed.Refused = ⊥
-AnswerDue n i p (Performed.Done x) = IsTo (Participant.on_answer (full n) i p i x.answer)
+abbrev AnswerDue : ℕ → ℕ → Participant → Option Logged → Type 0
+AnswerDue n i p Option.None = ⊥
+AnswerDue n i p (Option.Some x) = IsTo (Participant.on_answer (full n) i p i x.answer)
 
 module _ (n : ℕ) (F : ℕ → LogRecord) (i : ℕ) where
-  vote_due : (first last : LogRecord) → Allowed n F first last → last ≢ Commit → AnswerDue n i VotingYes (perform (Call.LogOnce Yes) (record { first = first; last = last }))
+  vote_due : (first last : LogRecord) → Allowed n F first last → last ≢ Commit → AnswerDue n i VotingYes (perform (Option.Some (Call.LogOnce Yes)) (record { first = first; last = last }))
   vote_due None last h k = tt
   vote_due Yes None h k = absurd h
   vote_due Yes Yes h k = tt
@@ -38,7 +39,7 @@ module _ (n : ℕ) (F : ℕ → LogRecord) (i : ℕ) where
   vote_due Abort Commit h k = absurd h
   vote_due Commit last h k = absurd h
 
-  close_due : (first last : LogRecord) → Allowed n F first last → AnswerDue n i Closing (perform (Call.LogOnce Abort) (record { first = first; last = last }))
+  close_due : (first last : LogRecord) → Allowed n F first last → AnswerDue n i Closing (perform (Option.Some (Call.LogOnce Abort)) (record { first = first; last = last }))
   close_due None last h = tt
   close_due Yes None h = absurd h
   close_due Yes Yes h = tt
@@ -51,13 +52,13 @@ module _ (n : ℕ) (F : ℕ → LogRecord) (i : ℕ) where
   close_due Commit last h = absurd h
 
   -- with a yes as the first record
-  commit_due : (first last : LogRecord) → Allowed n F Yes last → EveryYes n F → AnswerDue n i RecordingCommit (perform (Call.Log Commit) (record { first = first; last = last }))
+  commit_due : (first last : LogRecord) → Allowed n F Yes last → EveryYes n F → AnswerDue n i RecordingCommit (perform (Option.Some (Call.Log Commit)) (record { first = first; last = last }))
   commit_due first None h y = absurd h
   commit_due first Yes h y = tt
   commit_due first Abort h y = absurd (excluded y h)
   commit_due first Commit h y = tt
 
-  abort_due : (first last : LogRecord) → Allowed n F Yes last → SomeAbort n F → AnswerDue n i RecordingAbort (perform (Call.Log Abort) (record { first = first; last = last }))
+  abort_due : (first last : LogRecord) → Allowed n F Yes last → SomeAbort n F → AnswerDue n i RecordingAbort (perform (Option.Some (Call.Log Abort)) (record { first = first; last = last }))
   abort_due first None h y = absurd h
   abort_due first Yes h y = tt
   abort_due first Abort h y = tt
@@ -66,13 +67,13 @@ module _ (n : ℕ) (F : ℕ → LogRecord) (i : ℕ) where
 own_test : (i : ℕ) → eqb i i ≡ true
 own_test i = eq-eqb i i refl
 
-answered_due : (r : Release) (i j : ℕ) (x : Logged) (t : Transition) → IsTo t → moves (participant_answered true i j x t r).outcome ≡ true
-answered_due r i j x NotDue h = absurd h
-answered_due r i j x (To p s) h = participant_due i p s (called (suc i) j x.log r)
+answered_due : (r : Release) (i j : ℕ) (x : Logged) (t : Transition Participant) → IsTo t → moves (participant_answered true i j x t r).outcome ≡ true
+answered_due r i j x Option.None h = absurd h
+answered_due r i j x (Option.Some (p, s)) h = participant_due i p s (called (suc i) j x.log r)
 
-performed_due : (r : Release) (i : ℕ) (s : Performed) → AnswerDue r.n i (participant_of r i) s → moves (participant_performed true i i s r).outcome ≡ true
-performed_due r i Performed.Refused h = absurd h
-performed_due r i (Performed.Done x) h = answered_due r i i x (Participant.on_answer (full r.n) i (participant_of r i) i x.answer) h
+performed_due : (r : Release) (i : ℕ) (s : Option Logged) → AnswerDue r.n i (participant_of r i) s → moves (participant_performed true i i s r).outcome ≡ true
+performed_due r i Option.None h = absurd h
+performed_due r i (Option.Some x) h = answered_due r i i x (Participant.on_answer (full r.n) i (participant_of r i) i x.answer) h
 
 -- in state p
 abbrev ReadyIn : Release → ℕ → Participant → Type 0

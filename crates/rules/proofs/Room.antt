@@ -3,12 +3,13 @@ use mathlib.Core.Path.{◌≡◌, refl, ◌∙◌}
 use mathlib.Core.List.{List, [], ◌∷◌}
 use Prim.Native.Nat.{ℕ, suc, ◌+◌}
 use lib.ListN.{length, get_or, length-set}
+use Rattle.std.specs.Prelude.{Option}
 use Rattle.mask.specs.Mask.{full}
 use Rattle.coordinator.specs.Coordinator
 use Rattle.rules.specs.State.{message_place}
 use Rattle.rules.specs.Step.{with_mask, send, take_out, send_all, with_participant, with_coordinator, called, participant_to, coordinator_to, coordinator_goes, receive, step}
 use Rattle.rules.specs.Run.{after}
-use Rattle.rules.specs.Types.{LogPair, Participant, Sent, Coordinator, CoordinatorTransition, Message, Step, Release, Report}
+use Rattle.rules.specs.Types.{LogPair, Participant, Message, Coordinator, Transition, Step, Release, Report}
 use Rattle.rules.proofs.Causes.{Cause, idles, starts, delivers, copies, loses, answered, lost, coordinator_answered_lem, coordinator_lost, times_out, crashes, restarts, coordinator_times_out, coordinator_crashes, coordinator_restarts, cause}
 
 pub record SameRoom (r t : Release) : Type 0 where
@@ -35,26 +36,26 @@ room_then : (r s t : Release) → SameRoom r s → SameRoom s t → SameRoom r t
 room_then r s t a b =
     record { same_n = b.same_n ∙ a.same_n; sites = b.sites ∙ a.sites; logs = b.logs ∙ a.logs; messages = b.messages ∙ a.messages; calls = b.calls ∙ a.calls }
 
-to_room : (i : ℕ) (p : Participant) (s : Sent) (r : Release) → SameRoom r (participant_to i p s r).next
+to_room : (i : ℕ) (p : Participant) (s : Option Message) (r : Release) → SameRoom r (participant_to i p s r).next
 unfolding participant_to
-to_room i p Sent.Nothing r = placed i p r
-to_room i p (Sent.Sends m) r = room_then r (send m i r) _ (masked m _ r) (placed i p (send m i r))
+to_room i p Option.None r = placed i p r
+to_room i p (Option.Some m) r = room_then r (send m i r) _ (masked m _ r) (placed i p (send m i r))
 
-coordinator_room : (c : Coordinator) (s : Sent) (r : Release) → SameRoom r (coordinator_to c s r).next
+coordinator_room : (c : Coordinator) (s : Option Message) (r : Release) → SameRoom r (coordinator_to c s r).next
 unfolding coordinator_to
-coordinator_room c Sent.Nothing r = led c r
-coordinator_room c (Sent.Sends m) r = room_then r (send_all m r) _ (masked m _ r) (led c (send_all m r))
+coordinator_room c Option.None r = led c r
+coordinator_room c (Option.Some m) r = room_then r (send_all m r) _ (masked m _ r) (led c (send_all m r))
 
-goes_room : (t : CoordinatorTransition) (r : Release) → SameRoom r (coordinator_goes t r).next
-goes_room CoordinatorTransition.NotDue r = room_refl r
-goes_room (CoordinatorTransition.To c s) r = coordinator_room c s r
+goes_room : (t : Transition Coordinator) (r : Release) → SameRoom r (coordinator_goes t r).next
+goes_room Option.None r = room_refl r
+goes_room (Option.Some (c, s)) r = coordinator_room c s r
 
 receive_room : (m : Message) (i : ℕ) (r : Release) → SameRoom r (receive m i r).next
-receive_room Message.Request i r = to_room i _ Sent.Nothing r
+receive_room Message.Request i r = to_room i _ Option.None r
 receive_room Message.ReplyYes i r = goes_room (Coordinator.on_reply_yes (full r.n) i r.coordinator) r
 receive_room Message.ReplyAbort i r = goes_room (Coordinator.on_reply_abort r.coordinator) r
-receive_room Message.Commit i r = to_room i _ Sent.Nothing r
-receive_room Message.Abort i r = to_room i _ Sent.Nothing r
+receive_room Message.Commit i r = to_room i _ Option.None r
+receive_room Message.Abort i r = to_room i _ Option.None r
 
 called_room : (p j : ℕ) (l : LogPair) (r : Release) → SameRoom r (called p j l r)
 called_room p j l r =

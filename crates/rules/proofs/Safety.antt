@@ -2,6 +2,7 @@
 use mathlib.Core.Path.{◌≡◌, refl, sym, ◌∙◌, ap}
 use mathlib.Core.Bool.{Bool, true}
 use Prim.Native.Nat.{ℕ, suc, ◌<◌}
+use Rattle.std.specs.Prelude.{Option}
 use Rattle.mask.specs.Mask.{has, full}
 use Rattle.store.specs.Log.{perform}
 use Rattle.store.proofs.Laws.{perform_answers}
@@ -11,7 +12,7 @@ use Rattle.rules.specs.State.{participant_of, log_of, first_of, last_of}
 use Rattle.rules.specs.Report.{with_closed}
 use Rattle.rules.specs.Step.{called, take_out, moved, participant_to, participant_goes, coordinator_to, coordinator_goes, receive, step}
 use Rattle.kind.specs.Step.{in_range}
-use Rattle.rules.specs.Types.{LogRecord, LogPair, Call, Logged, Performed, Participant, Sent, Decision, Transition, NotDue, To, CoordinatorTransition, Message, Step, Release, Report}
+use Rattle.rules.specs.Types.{LogRecord, LogPair, Call, Logged, Participant, Message, Decision, Transition, Step, Release, Report, Coordinator}
 use Rattle.rules.proofs.FirstRecords.{still, Keeps, keeps_refl, keeps_trans}
 use Rattle.rules.proofs.Invariant.{Tells, Inv, participant_claim, coordinator_claim}
 use Rattle.rules.proofs.Updates.{take_out_inv, Change, called_at, called_keeps, called_inv, Good, idle_good, participant_good, coordinator_good}
@@ -28,13 +29,13 @@ moved_good r s v w k = record { inv = v; same_n = w; keeps = k; backed = tt }
 after_good : (r s : Release) (t : Report) → s.n ≡ r.n → Keeps (log_of r) (log_of s) → Good s t → Good r t
 after_good r s t w k g = record { inv = g.inv; same_n = g.same_n ∙ w; keeps = keeps_trans k g.keeps; backed = g.backed }
 
-goes_good : (r : Release) (i : ℕ) (t : Transition) → Inv r → Fits r.n (first_of r) i (last_of r i) t → Good r (participant_goes i t r)
-goes_good r i NotDue v f = idle_good r v
-goes_good r i (To p s) v f = participant_good r i p s v f.0.knows f.0.ends f.1
+goes_good : (r : Release) (i : ℕ) (t : Transition Participant) → Inv r → Fits r.n (first_of r) i (last_of r i) t → Good r (participant_goes i t r)
+goes_good r i Option.None v f = idle_good r v
+goes_good r i (Option.Some (p, s)) v f = participant_good r i p s v f.0.knows f.0.ends f.1
 
-coordinator_goes_good : (r : Release) (t : CoordinatorTransition) → Inv r → CoordinatorFits r.n (first_of r) t → Good r (coordinator_goes t r)
-coordinator_goes_good r CoordinatorTransition.NotDue v f = idle_good r v
-coordinator_goes_good r (CoordinatorTransition.To c s) v f = coordinator_good r c s v f.0 f.1
+coordinator_goes_good : (r : Release) (t : Transition Coordinator) → Inv r → CoordinatorFits r.n (first_of r) t → Good r (coordinator_goes t r)
+coordinator_goes_good r Option.None v f = idle_good r v
+coordinator_goes_good r (Option.Some (c, s)) v f = coordinator_good r c s v f.0 f.1
 
 -- messages
 
@@ -43,8 +44,8 @@ module _ (r : Release) (i : ℕ) (h : i < r.n) (v : Inv r) where
   stands : Stands r.n (first_of r) i (last_of r i) (participant_of r i)
   stands = record { knows = v.knows i h; ends = v.ends i h }
 
-  stands_good : (p : Participant) → Stands r.n (first_of r) i (last_of r i) p → Good r (participant_to i p Sent.Nothing r)
-  stands_good p s = participant_good r i p Sent.Nothing v s.knows s.ends tt
+  stands_good : (p : Participant) → Stands r.n (first_of r) i (last_of r i) p → Good r (participant_to i p Option.None r)
+  stands_good p s = participant_good r i p Option.None v s.knows s.ends tt
 
   pub receive_good : (m : Message) → Tells r.n (first_of r) i m → Good r (receive m i r)
   receive_good Message.Request t =
@@ -69,28 +70,28 @@ called_says r p j l v h ch =
     rw at at (says r.n (first_of (called p j l r)) j h (log_of (called p j l r) j).first (log_of (called p j l r) j).last refl (w.pairs j h))
 
 -- the call that is pending, and the guard under which it is
-abbrev pub Guarded : Type 0 → Performed → Type 0
-Guarded G Performed.Refused = Unit {0}
-Guarded G (Performed.Done x) = G
+abbrev pub Guarded : Type 0 → Option Logged → Type 0
+Guarded G Option.None = Unit {0}
+Guarded G (Option.Some x) = G
 
-guarded : (G : Type 0) (p : Performed) → G → Guarded G p
-guarded G Performed.Refused g = tt
-guarded G (Performed.Done x) g = g
+guarded : (G : Type 0) (p : Option Logged) → G → Guarded G p
+guarded G Option.None g = tt
+guarded G (Option.Some x) g = g
 
-perform_guarded : (n : ℕ) (F : ℕ → LogRecord) (P : ℕ → Participant) (i : ℕ) (p : Participant) (j : ℕ) (c : Call) (l : LogPair)
+perform_guarded : (n : ℕ) (F : ℕ → LogRecord) (P : ℕ → Participant) (i : ℕ) (p : Participant) (j : ℕ) (c : Option Call) (l : LogPair)
     → Pends n F P i p j c → Guarded (Guard i p j) (perform c l)
-perform_guarded n F P i p j Call.None l h = tt
-perform_guarded n F P i p j (Call.LogOnce r) l h = h.1
-perform_guarded n F P i p j (Call.Log r) l h = guarded (Guard i p j) (perform (Call.Log r) l) h.1
+perform_guarded n F P i p j Option.None l h = tt
+perform_guarded n F P i p j (Option.Some (Call.LogOnce r)) l h = h.1
+perform_guarded n F P i p j (Option.Some (Call.Log r)) l h = guarded (Guard i p j) (perform (Option.Some (Call.Log r)) l) h.1
 
-pends_fits : (n : ℕ) (F : ℕ → LogRecord) (P : ℕ → Participant) (i : ℕ) (p : Participant) (j : ℕ) (c : Call) → Pends n F P i p j c → CallFits n F j (P j) c
-pends_fits n F P i p j Call.None h = tt
-pends_fits n F P i p j (Call.LogOnce r) h = h.0
-pends_fits n F P i p j (Call.Log r) h = h.0
+pends_fits : (n : ℕ) (F : ℕ → LogRecord) (P : ℕ → Participant) (i : ℕ) (p : Participant) (j : ℕ) (c : Option Call) → Pends n F P i p j c → CallFits n F j (P j) c
+pends_fits n F P i p j Option.None h = tt
+pends_fits n F P i p j (Option.Some (Call.LogOnce r)) h = h.0
+pends_fits n F P i p j (Option.Some (Call.Log r)) h = h.0
 
 -- a due call of participant i on log j
 module _ (r : Release) (i j : ℕ) (x : Logged) (hi : i < r.n) (hj : j < r.n) (v : Inv r)
-    (q : perform (Participant.pending i (participant_of r i) j) (log_of r j) ≡ Performed.Done x) where
+    (q : perform (Participant.pending i (participant_of r i) j) (log_of r j) ≡ Option.Some x) where
   pends : Pends r.n (first_of r) (participant_of r) i (participant_of r i) j (Participant.pending i (participant_of r i) j)
   pends = pending_fits r.n (first_of r) (participant_of r) i j (participant_of r i) refl (v.knows i hi)
 
@@ -118,7 +119,7 @@ module _ (r : Release) (i j : ℕ) (x : Logged) (hi : i < r.n) (hj : j < r.n) (v
 
 -- a due call of the coordinator on log j
 module _ (r : Release) (j : ℕ) (x : Logged) (hj : j < r.n) (v : Inv r)
-    (q : perform (Coordinator.pending r.coordinator j) (log_of r j) ≡ Performed.Done x) where
+    (q : perform (Coordinator.pending r.coordinator j) (log_of r j) ≡ Option.Some x) where
   coordinator_change : Change r.n (first_of r) (participant_of r j) (log_of r j) x.log
   coordinator_change =
       rw q at (perform_fits r.n (first_of r) (participant_of r j) j (Coordinator.pending r.coordinator j) (log_of r j)
@@ -142,7 +143,7 @@ called_good r p j l closed t v ch g =
 
 caused_good : (r : Release) {s : Step} {t : Report} → Cause r s t → Bounds r.n s → Inv r → Good r t
 caused_good r idles h v = idle_good r v
-caused_good r (starts {c} {x} q) h v = coordinator_goes_good r (CoordinatorTransition.To c x) v (rw q at (start_fits r.n (first_of r) r.coordinator))
+caused_good r (starts {c} {x} q) h v = coordinator_goes_good r (Option.Some (c, x)) v (rw q at (start_fits r.n (first_of r) r.coordinator))
 caused_good r (delivers {m} {i} b) h v =
     after_good r (take_out m i r) (receive m i (take_out m i r)) refl (keeps_refl (log_of r))
     (receive_good (take_out m i r) i h.1 (take_out_inv r m i v) m (v.tells m i h.1 b))
@@ -150,24 +151,24 @@ caused_good r (copies {m} {i} b) h v = receive_good r i h.1 v m (v.tells m i h.1
 caused_good r (loses {m} {i}) h v = moved_good r (take_out m i r) (take_out_inv r m i v) refl (keeps_refl (log_of r))
 caused_good r (answered {i} {j} {l} {p} {x} a) h v =
     called_good r (suc i) j l.log _ (participant_to i p x (called (suc i) j l.log r)) v (call_change r i j l h.0 h.2 v a.done)
-    (λ w. goes_good (called (suc i) j l.log r) i (To p x) w (rw a.answer at (call_fits r i j l h.0 h.2 v a.done)))
+    (λ w. goes_good (called (suc i) j l.log r) i (Option.Some (p, x)) w (rw a.answer at (call_fits r i j l h.0 h.2 v a.done)))
 caused_good r (lost {i} {j} {l} a) h v =
     called_good r (suc i) j l.log _ (moved (called (suc i) j l.log r)) v (call_change r i j l h.0 h.2 v a.done) (λ w. moved_good _ _ w refl (keeps_refl _))
 caused_good r (coordinator_answered_lem {j} {l} {c} {x} a) h v =
     called_good r 0 j l.log _ (coordinator_to c x (called 0 j l.log r)) v (coordinator_change r j l h.2 v a.done)
-    (λ w. coordinator_goes_good (called 0 j l.log r) (CoordinatorTransition.To c x) w (rw a.answer at (coordinator_call_fits r j l h.2 v a.done)))
+    (λ w. coordinator_goes_good (called 0 j l.log r) (Option.Some (c, x)) w (rw a.answer at (coordinator_call_fits r j l h.2 v a.done)))
 caused_good r (coordinator_lost {j} {l} a) h v =
     called_good r 0 j l.log _ (moved (called 0 j l.log r)) v (coordinator_change r j l h.2 v a.done) (λ w. moved_good _ _ w refl (keeps_refl _))
 caused_good r (times_out {i} {p} {x} q) h v =
-    goes_good r i (To p x) v (rw q at (timeout_fits r.n (first_of r) i (last_of r i) (participant_of r i) (v.knows i h)))
-caused_good r (crashes {i} {p} {x} q) h v = goes_good r i (To p x) v (rw q at (crash_fits r.n (first_of r) i (last_of r i) (participant_of r i)))
-caused_good r (restarts {i} {p} {x} q) h v = goes_good r i (To p x) v (rw q at (restart_fits r.n (first_of r) i (last_of r i) (participant_of r i)))
+    goes_good r i (Option.Some (p, x)) v (rw q at (timeout_fits r.n (first_of r) i (last_of r i) (participant_of r i) (v.knows i h)))
+caused_good r (crashes {i} {p} {x} q) h v = goes_good r i (Option.Some (p, x)) v (rw q at (crash_fits r.n (first_of r) i (last_of r i) (participant_of r i)))
+caused_good r (restarts {i} {p} {x} q) h v = goes_good r i (Option.Some (p, x)) v (rw q at (restart_fits r.n (first_of r) i (last_of r i) (participant_of r i)))
 caused_good r (coordinator_times_out {c} {x} q) h v =
-    coordinator_goes_good r (CoordinatorTransition.To c x) v (rw q at (coordinator_timeout_fits r.n (first_of r) r.coordinator))
+    coordinator_goes_good r (Option.Some (c, x)) v (rw q at (coordinator_timeout_fits r.n (first_of r) r.coordinator))
 caused_good r (coordinator_crashes {c} {x} q) h v =
-    coordinator_goes_good r (CoordinatorTransition.To c x) v (rw q at (coordinator_crash_fits r.n (first_of r) r.coordinator))
+    coordinator_goes_good r (Option.Some (c, x)) v (rw q at (coordinator_crash_fits r.n (first_of r) r.coordinator))
 caused_good r (coordinator_restarts {c} {x} q) h v =
-    coordinator_goes_good r (CoordinatorTransition.To c x) v (rw q at (coordinator_restart_fits r.n (first_of r) r.coordinator))
+    coordinator_goes_good r (Option.Some (c, x)) v (rw q at (coordinator_restart_fits r.n (first_of r) r.coordinator))
 
 pub step_good : (r : Release) (s : Step) → in_range r.n s ≡ true → Inv r → Good r (step r s)
 step_good r s h v = caused_good r (cause r s) (bounds r.n s h) v

@@ -5,13 +5,15 @@ use mathlib.Core.Bool.{Bool, false, cond}
 use Prim.Native.Nat.{ℕ}
 use lib.Dec.{eqb}
 use borrow.Author.Tests.{eqb-true}
+use Rattle.std.specs.Prelude.{Option}
 use Rattle.mask.specs.Mask.{has, insert, full}
 use Rattle.mask.proofs.Laws.{has_zero, not_inserted, has_insert_other}
+use Rattle.message.specs.Message.{to}
 use Rattle.participant.specs.Participant
 use Rattle.coordinator.specs.Coordinator
 use Rattle.rules.proofs.Cases.{cond_cases, answer_cases, request_cases, decision_cases, timeout_cases, crash_cases, restart_cases, start_cases, reply_yes_cases, reply_abort_cases, coordinator_timeout_cases, coordinator_answer_cases, coordinator_crash_cases, coordinator_restart_cases, enters_cases}
 use Rattle.rules.specs.Demand.{EveryYes, SomeAbort}
-use Rattle.rules.specs.Types.{LogRecord, None, Yes, Abort, Commit, Decision, Participant, VotingYes, Closing, Terminating, RecordingCommit, Transition, NotDue, To, Coordinator, CoordinatorTransition}
+use Rattle.rules.specs.Types.{LogRecord, None, Yes, Abort, Commit, Decision, Participant, VotingYes, Closing, Terminating, RecordingCommit, Transition, Coordinator}
 use Rattle.rules.proofs.FirstRecords.{Heard, heard_none, heard_insert, heard_full}
 use Rattle.rules.proofs.Invariant.{Knows, Ends, CoordinatorKnows}
 use Rattle.rules.proofs.Updates.{SentFits, BroadcastFits}
@@ -23,9 +25,9 @@ pub record Stands (n : ℕ) (F : ℕ → LogRecord) (i : ℕ) (e : LogRecord) (p
   pub knows : Knows n F i p
   pub ends : Ends p e
 
-abbrev pub Fits : ℕ → (ℕ → LogRecord) → ℕ → LogRecord → Transition → Type 0
-Fits n F i e NotDue = Unit {0}
-Fits n F i e (To p s) = Stands n F i e p × SentFits n F i s
+abbrev pub Fits : ℕ → (ℕ → LogRecord) → ℕ → LogRecord → Transition Participant → Type 0
+Fits n F i e Option.None = Unit {0}
+Fits n F i e (Option.Some (p, s)) = Stands n F i e p × SentFits n F i s
 
 module _ (n : ℕ) (F : ℕ → LogRecord) (i : ℕ) (e : LogRecord) where
   stands_closing : Stands n F i e Closing
@@ -96,12 +98,12 @@ module _ (n : ℕ) (F : ℕ → LogRecord) (i : ℕ) (e : LogRecord) where
 
 -- the coordinator
 
-abbrev pub CoordinatorFits : ℕ → (ℕ → LogRecord) → CoordinatorTransition → Type 0
-CoordinatorFits n F CoordinatorTransition.NotDue = Unit {0}
-CoordinatorFits n F (CoordinatorTransition.To c s) = CoordinatorKnows n F c × BroadcastFits n F s
+abbrev pub CoordinatorFits : ℕ → (ℕ → LogRecord) → Transition Coordinator → Type 0
+CoordinatorFits n F Option.None = Unit {0}
+CoordinatorFits n F (Option.Some (c, s)) = CoordinatorKnows n F c × BroadcastFits n F s
 
 module _ (n : ℕ) (F : ℕ → LogRecord) where
-  to_fits : (c : Coordinator) → CoordinatorKnows n F c → CoordinatorFits n F (Coordinator.to c)
+  to_fits : (c : Coordinator) → CoordinatorKnows n F c → CoordinatorFits n F (to c)
   to_fits c k = (k, λ i l. tt)
 
   -- a decision that is entered is sent

@@ -8,6 +8,7 @@ use mathlib.Core.Bool.{Bool, true, false}
 use Prim.Native.Nat.{ℕ, suc, ◌<◌}
 use native.Mathlib.Omega.{arith}
 use lib.Dec.{eqb}
+use Rattle.std.specs.Prelude.{Option}
 use Rattle.kind.specs.Step.{AllInRange}
 use Rattle.mask.specs.Mask.{has, full, insert}
 use Rattle.mask.proofs.Laws.{has_full}
@@ -19,7 +20,7 @@ use Rattle.rules.specs.State.{participant_of, participant_at, log_of, log_at, fi
 use Rattle.rules.specs.Report.{moves}
 use Rattle.rules.specs.Step.{called, take_out, with_participant, participant_to, coordinator_to, coordinator_goes, receive, step}
 use Rattle.rules.specs.Demand.{SomeAbort, Reported, AllCalm}
-use Rattle.rules.specs.Types.{LogRecord, None, Yes, Abort, Commit, LogPair, Call, Logged, Performed, Participant, Waiting, VotingYes, Closing, Uncertain, Terminating, RecordingCommit, RecordingAbort, DoneCommit, DoneAbort, Down, Site, Sent, Decision, Transition, NotDue, To, Coordinator, CoordinatorTransition, Message, Step, Timeout, Restart, Outcome, Release, Report}
+use Rattle.rules.specs.Types.{LogRecord, None, Yes, Abort, Commit, LogPair, Call, Logged, Participant, Waiting, VotingYes, Closing, Uncertain, Terminating, RecordingCommit, RecordingAbort, DoneCommit, DoneAbort, Down, Site, Message, Decision, Transition, Coordinator, Step, Timeout, Restart, Outcome, Release, Report}
 use Rattle.rules.proofs.FirstRecords.{true_false}
 use Rattle.rules.proofs.Written.{LeavesFirst, Writes, perform_first}
 use Rattle.rules.proofs.Invariant.{Inv}
@@ -79,15 +80,15 @@ participant_unanimous r i p u w =
       no_abort = u.no_abort;
     }
 
-to_unanimous : (r : Release) (i : ℕ) (p : Participant) (s : Sent) → Unanimous r → Willing p → Unanimous (participant_to i p s r).next
+to_unanimous : (r : Release) (i : ℕ) (p : Participant) (s : Option Message) → Unanimous r → Willing p → Unanimous (participant_to i p s r).next
 unfolding participant_to
-to_unanimous r i p Sent.Nothing u w = participant_unanimous r i p u w
-to_unanimous r i p (Sent.Sends m) u w = participant_unanimous r i p u w
+to_unanimous r i p Option.None u w = participant_unanimous r i p u w
+to_unanimous r i p (Option.Some m) u w = participant_unanimous r i p u w
 
-coordinator_unanimous : (r : Release) (c : Coordinator) (s : Sent) → Unanimous r → CoordinatorWilling c → Unanimous (coordinator_to c s r).next
+coordinator_unanimous : (r : Release) (c : Coordinator) (s : Option Message) → Unanimous r → CoordinatorWilling c → Unanimous (coordinator_to c s r).next
 unfolding coordinator_to
-coordinator_unanimous r c Sent.Nothing u w = record { all_yes = u.all_yes; coordinator_willing = w; willing = u.willing; no_abort = u.no_abort }
-coordinator_unanimous r c (Sent.Sends m) u w = record { all_yes = u.all_yes; coordinator_willing = w; willing = u.willing; no_abort = u.no_abort }
+coordinator_unanimous r c Option.None u w = record { all_yes = u.all_yes; coordinator_willing = w; willing = u.willing; no_abort = u.no_abort }
+coordinator_unanimous r c (Option.Some m) u w = record { all_yes = u.all_yes; coordinator_willing = w; willing = u.willing; no_abort = u.no_abort }
 
 called_unanimous : (r : Release) (p j : ℕ) (l : LogPair) → Unanimous r → NotAbort l.first → Unanimous (called p j l r)
 called_unanimous r p j l u w =
@@ -100,13 +101,13 @@ called_unanimous r p j l u w =
 
 -- the rules
 
-abbrev WillingTo : Transition → Type 0
-WillingTo NotDue = Unit {0}
-WillingTo (To p s) = Willing p
+abbrev WillingTo : Transition Participant → Type 0
+WillingTo Option.None = Unit {0}
+WillingTo (Option.Some (p, s)) = Willing p
 
-abbrev CoordinatorWillingTo : CoordinatorTransition → Type 0
-CoordinatorWillingTo CoordinatorTransition.NotDue = Unit {0}
-CoordinatorWillingTo (CoordinatorTransition.To c s) = CoordinatorWilling c
+abbrev CoordinatorWillingTo : Transition Coordinator → Type 0
+CoordinatorWillingTo Option.None = Unit {0}
+CoordinatorWillingTo (Option.Some (c, s)) = CoordinatorWilling c
 
 request_willing : (vote : Bool) → vote ≡ true → (p : Participant) → Willing p → Willing (Participant.on_request vote p)
 request_willing vote q p = request_cases (λ p p'. Willing p → Willing p') vote (λ w. rw q tt) (λ p w. w) p
@@ -150,14 +151,14 @@ reply_abort_willing c = reply_abort_cases (λ c t. CoordinatorWilling c → Coor
 
 -- a willing party's call leaves no abort as a first record
 
-abbrev LeavesNoAbort : Performed → Type 0
+abbrev LeavesNoAbort : Option Logged → Type 0
 LeavesNoAbort p = LeavesFirst NotAbort p
 
-abbrev WillingCall : Call → Type 0
+abbrev WillingCall : Option Call → Type 0
 WillingCall c = Writes NotAbort c
 
-own_willing : (i j : ℕ) (c : Call) → WillingCall c → WillingCall (Participant.own_call i j c)
-own_willing i j c w = cond_cases WillingCall (eqb j i) c Call.None (λ t. w) (λ t. tt)
+own_willing : (i j : ℕ) (c : Call) → WillingCall (Option.Some c) → WillingCall (Participant.own_call i j c)
+own_willing i j c w = cond_cases WillingCall (eqb j i) (Option.Some c) Option.None (λ t. w) (λ t. tt)
 
 pending_willing : (i : ℕ) (p : Participant) (j : ℕ) → Willing p → WillingCall (Participant.pending i p j)
 pending_willing i Waiting j w = tt
@@ -172,7 +173,7 @@ pending_willing i DoneAbort j w = tt
 pending_willing i Down j w = tt
 
 -- a coordinator that is not terminating calls nothing
-no_coordinator_call : (c : Coordinator) (j : ℕ) (l : LogPair) → CoordinatorWilling c → perform (Coordinator.pending c j) l ≡ Performed.Refused
+no_coordinator_call : (c : Coordinator) (j : ℕ) (l : LogPair) → CoordinatorWilling c → perform (Coordinator.pending c j) l ≡ Option.None
 no_coordinator_call Coordinator.Idle j l w = refl
 no_coordinator_call (Coordinator.Waiting h) j l w = refl
 no_coordinator_call (Coordinator.Terminating h) j l w = absurd w
@@ -183,36 +184,36 @@ no_coordinator_call Coordinator.Retired j l w = refl
 
 -- messages
 
-goes_unanimous : (r : Release) (t : CoordinatorTransition) → Unanimous r → CoordinatorWillingTo t → Unanimous (coordinator_goes t r).next
-goes_unanimous r CoordinatorTransition.NotDue u w = u
-goes_unanimous r (CoordinatorTransition.To c s) u w = coordinator_unanimous r c s u w
+goes_unanimous : (r : Release) (t : Transition Coordinator) → Unanimous r → CoordinatorWillingTo t → Unanimous (coordinator_goes t r).next
+goes_unanimous r Option.None u w = u
+goes_unanimous r (Option.Some (c, s)) u w = coordinator_unanimous r c s u w
 
 receive_unanimous : (r : Release) (m : Message) (i : ℕ) → i < r.n → Unanimous r → Unanimous (receive m i r).next
 receive_unanimous r Message.Request i h u =
-    to_unanimous r i (Participant.on_request (has i r.votes) (participant_of r i)) Sent.Nothing u
+    to_unanimous r i (Participant.on_request (has i r.votes) (participant_of r i)) Option.None u
     (request_willing (has i r.votes) (rw u.all_yes (has_full i r.n h)) (participant_of r i) (u.willing i h))
 receive_unanimous r Message.ReplyYes i h u =
     goes_unanimous r (Coordinator.on_reply_yes (full r.n) i r.coordinator) u (reply_yes_willing (full r.n) i r.coordinator u.coordinator_willing)
 receive_unanimous r Message.ReplyAbort i h u =
     goes_unanimous r (Coordinator.on_reply_abort r.coordinator) u (reply_abort_willing r.coordinator u.coordinator_willing)
 receive_unanimous r Message.Commit i h u =
-    to_unanimous r i (Participant.on_decision Decision.Commit (participant_of r i)) Sent.Nothing u (decision_willing Decision.Commit (participant_of r i) (u.willing i h))
+    to_unanimous r i (Participant.on_decision Decision.Commit (participant_of r i)) Option.None u (decision_willing Decision.Commit (participant_of r i) (u.willing i h))
 receive_unanimous r Message.Abort i h u =
-    to_unanimous r i (Participant.on_decision Decision.Abort (participant_of r i)) Sent.Nothing u (decision_willing Decision.Abort (participant_of r i) (u.willing i h))
+    to_unanimous r i (Participant.on_decision Decision.Abort (participant_of r i)) Option.None u (decision_willing Decision.Abort (participant_of r i) (u.willing i h))
 
 -- calls
 
-call_unanimous : (r : Release) (i j : ℕ) (l : Logged) (p : Participant) (x : Sent) → i < r.n → j < r.n → ParticipantCall r i j l p x → Unanimous r
+call_unanimous : (r : Release) (i j : ℕ) (l : Logged) (p : Participant) (x : Option Message) → i < r.n → j < r.n → ParticipantCall r i j l p x → Unanimous r
     → Unanimous (called (suc i) j l.log r) × Willing p
 call_unanimous r i j l p x hi hj a u = (
   called_unanimous r (suc i) j l.log u (rw a.done at (perform_first NotAbort (Participant.pending i (participant_of r i) j) (log_of r j) (pending_willing i (participant_of r i) j (u.willing i hi)) (u.no_abort j hj))),
   rw a.answer at (answer_willing (full r.n) i (participant_of r i) j l.answer (u.willing i hi)),
 )
 
-no_call : (r : Release) (j : ℕ) (l : Logged) (c : Coordinator) (x : Sent) → CoordinatorCall r j l c x → Unanimous r → ⊥
+no_call : (r : Release) (j : ℕ) (l : Logged) (c : Coordinator) (x : Option Message) → CoordinatorCall r j l c x → Unanimous r → ⊥
 no_call r j l c x a u = refused (sym (no_coordinator_call r.coordinator j (log_of r j) u.coordinator_willing) ∙ a.done)
   where
-    refused : Performed.Refused ≡ Performed.Done l → ⊥
+    refused : Option.None ≡ Option.Some l → ⊥
     refused q = let z : ◌≡◌ {A = ℕ} 0 1 = cc in omega arith
 
 -- the conditions, of a step with outcome o

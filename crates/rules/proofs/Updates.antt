@@ -6,13 +6,14 @@ use Prim.Native.Nat.{ℕ, zero, suc, ◌≤◌, ◌<◌}
 use native.Mathlib.Nat.{le_trans}
 use lib.ListN.{get_or, set, length, length-set}
 use lib.Seq.{get_or-set_same}
+use Rattle.std.specs.Prelude.{Option}
 use Rattle.mask.specs.Mask.{has, insert, remove, full}
 use Rattle.mask.proofs.Laws.{has_insert_cases, has_remove}
 use Rattle.store.specs.Log.{empty}
 use Rattle.rules.specs.State.{participant_of, log_of, first_of, last_of, message_place, mask_at, mask_of, waiting}
 use Rattle.rules.specs.Report.{known, coordinator_known, learnt}
 use Rattle.rules.specs.Step.{with_mask, send, send_all, take_out, with_participant, participant_to, with_coordinator, coordinator_to, called, idle}
-use Rattle.rules.specs.Types.{LogRecord, LogPair, Participant, Coordinator, Message, Sent, Site, Release, Report}
+use Rattle.rules.specs.Types.{LogRecord, LogPair, Participant, Coordinator, Message, Site, Release, Report}
 use Rattle.rules.proofs.Messages.{same_message}
 use Rattle.rules.proofs.FirstRecords.{still, Keep, Keeps, keep_refl, keeps_refl}
 use Rattle.rules.proofs.Invariant.{Knows, Ends, Allowed, CoordinatorKnows, Tells, Backed, Inv, participant_claim, log_claim, coordinator_claim, message_claim, known_backed, coordinator_backed, learnt_backed}
@@ -60,11 +61,11 @@ take_out_inv r m i v = mask_inv r m (remove i (mask_of r m)) v (λ j l h. v.tell
 
 -- what participant i may send to the coordinator, and the coordinator to all
 
-abbrev pub SentFits : ℕ → (ℕ → LogRecord) → ℕ → Sent → Type 0
-SentFits n F i Sent.Nothing = Unit {0}
-SentFits n F i (Sent.Sends m) = Tells n F i m
+abbrev pub SentFits : ℕ → (ℕ → LogRecord) → ℕ → Option Message → Type 0
+SentFits n F i Option.None = Unit {0}
+SentFits n F i (Option.Some m) = Tells n F i m
 
-abbrev pub BroadcastFits : ℕ → (ℕ → LogRecord) → Sent → Type 0
+abbrev pub BroadcastFits : ℕ → (ℕ → LogRecord) → Option Message → Type 0
 BroadcastFits n F s = (i : ℕ) → i < n → SentFits n F i s
 
 -- a participant's state, and the coordinator's
@@ -131,7 +132,7 @@ pub record Good (r : Release) (t : Report) : Type 0 where
 pub idle_good : (r : Release) → Inv r → Good r (idle r)
 idle_good r v = record { inv = v; same_n = refl; keeps = keeps_refl (log_of r); backed = tt }
 
-pub participant_good : (r : Release) (i : ℕ) (p : Participant) (s : Sent) → Inv r
+pub participant_good : (r : Release) (i : ℕ) (p : Participant) (s : Option Message) → Inv r
     → Knows r.n (first_of r) i p → Ends p (last_of r i) → SentFits r.n (first_of r) i s → Good r (participant_to i p s r)
 unfolding participant_to
 participant_good r i p s v k e = go s
@@ -139,12 +140,12 @@ participant_good r i p s v k e = go s
     told : Backed r.n (first_of r) (learnt (known (participant_of r i)) (known p))
     told = learnt_backed r.n (first_of r) (known (participant_of r i)) (known p) (known_backed r.n (first_of r) i p k)
 
-    go : (s : Sent) → SentFits r.n (first_of r) i s → Good r (participant_to i p s r)
-    go Sent.Nothing f = record { inv = participant_inv r i p v k e; same_n = refl; keeps = keeps_refl (log_of r); backed = told }
-    go (Sent.Sends m) f =
+    go : (s : Option Message) → SentFits r.n (first_of r) i s → Good r (participant_to i p s r)
+    go Option.None f = record { inv = participant_inv r i p v k e; same_n = refl; keeps = keeps_refl (log_of r); backed = told }
+    go (Option.Some m) f =
         record { inv = participant_inv (send m i r) i p (send_inv r m i v f) k e; same_n = refl; keeps = keeps_refl (log_of r); backed = told }
 
-pub coordinator_good : (r : Release) (c : Coordinator) (s : Sent) → Inv r
+pub coordinator_good : (r : Release) (c : Coordinator) (s : Option Message) → Inv r
     → CoordinatorKnows r.n (first_of r) c → BroadcastFits r.n (first_of r) s → Good r (coordinator_to c s r)
 unfolding coordinator_to
 coordinator_good r c s v k = go s
@@ -152,9 +153,9 @@ coordinator_good r c s v k = go s
     told : Backed r.n (first_of r) (learnt (coordinator_known r.coordinator) (coordinator_known c))
     told = learnt_backed r.n (first_of r) (coordinator_known r.coordinator) (coordinator_known c) (coordinator_backed r.n (first_of r) c k)
 
-    go : (s : Sent) → BroadcastFits r.n (first_of r) s → Good r (coordinator_to c s r)
-    go Sent.Nothing f = record { inv = coordinator_inv r c v k; same_n = refl; keeps = keeps_refl (log_of r); backed = told }
-    go (Sent.Sends m) f =
+    go : (s : Option Message) → BroadcastFits r.n (first_of r) s → Good r (coordinator_to c s r)
+    go Option.None f = record { inv = coordinator_inv r c v k; same_n = refl; keeps = keeps_refl (log_of r); backed = told }
+    go (Option.Some m) f =
         record {
           inv = coordinator_inv (send_all m r) c (mask_inv r m (full r.n) v (λ i l h. f i l)) k;
           same_n = refl;

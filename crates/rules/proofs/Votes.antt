@@ -5,6 +5,7 @@ use mathlib.Core.List.{List, [], ◌∷◌}
 use Prim.Native.Nat.{ℕ, suc}
 use lib.Dec.{eqb}
 use borrow.Author.Tests.{eqb-true}
+use Rattle.std.specs.Prelude.{Option}
 use Rattle.mask.specs.Mask.{has, insert, full}
 use Rattle.store.specs.Log.{empty}
 use Rattle.participant.specs.Participant
@@ -13,7 +14,7 @@ use Rattle.rules.specs.State.{participant_of, participant_at, log_of, log_at, wa
 use Rattle.rules.specs.Step.{called, take_out, participant_to, coordinator_to, coordinator_goes, receive, step}
 use Rattle.rules.specs.Run.{after}
 use Rattle.rules.specs.History.{YesByVote}
-use Rattle.rules.specs.Types.{LogRecord, None, Yes, Abort, Commit, LogPair, Call, Logged, Participant, Waiting, VotingYes, Closing, Uncertain, Terminating, RecordingCommit, RecordingAbort, DoneCommit, DoneAbort, Down, Site, Sent, Decision, Transition, NotDue, To, Coordinator, CoordinatorTransition, Message, Step, Release, Report}
+use Rattle.rules.specs.Types.{LogRecord, None, Yes, Abort, Commit, LogPair, Call, Logged, Participant, Waiting, VotingYes, Closing, Uncertain, Terminating, RecordingCommit, RecordingAbort, DoneCommit, DoneAbort, Down, Site, Message, Decision, Transition, Coordinator, Step, Release, Report}
 use Rattle.rules.proofs.Cases.{cond_cases, answer_cases, request_cases, decision_cases, timeout_cases, crash_cases, restart_cases}
 use Rattle.rules.proofs.Updates.{set_all}
 use Rattle.rules.proofs.Causes.{ParticipantCall, CoordinatorCall, Cause, idles, starts, delivers, copies, loses, answered, lost, coordinator_answered_lem, coordinator_lost, times_out, crashes, restarts, coordinator_times_out, coordinator_crashes, coordinator_restarts, cause}
@@ -50,17 +51,17 @@ Voted r = Voting r.votes r.sites r.store.logs
 
 -- the updates
 
-to_voted : (r : Release) (i : ℕ) (p : Participant) (s : Sent) → Voted r → Asked (has i r.votes) p → Voted (participant_to i p s r).next
+to_voted : (r : Release) (i : ℕ) (p : Participant) (s : Option Message) → Voted r → Asked (has i r.votes) p → Voted (participant_to i p s r).next
 unfolding participant_to
-to_voted r i p Sent.Nothing v a =
+to_voted r i p Option.None v a =
     record { asked = set_all (λ (j : ℕ) (s : Site). Asked (has j r.votes) s.participant) r.sites i (record { participant = p }) waiting v.asked a; written = v.written }
-to_voted r i p (Sent.Sends m) v a =
+to_voted r i p (Option.Some m) v a =
     record { asked = set_all (λ (j : ℕ) (s : Site). Asked (has j r.votes) s.participant) r.sites i (record { participant = p }) waiting v.asked a; written = v.written }
 
-coordinator_voted : (r : Release) (c : Coordinator) (s : Sent) → Voted r → Voted (coordinator_to c s r).next
+coordinator_voted : (r : Release) (c : Coordinator) (s : Option Message) → Voted r → Voted (coordinator_to c s r).next
 unfolding coordinator_to
-coordinator_voted r c Sent.Nothing v = v
-coordinator_voted r c (Sent.Sends m) v = v
+coordinator_voted r c Option.None v = v
+coordinator_voted r c (Option.Some m) v = v
 
 called_voted : (r : Release) (p j : ℕ) (l : LogPair) → Voted r → YesBy (has j r.votes) l.first → Voted (called p j l r)
 called_voted r p j l v y =
@@ -68,9 +69,9 @@ called_voted r p j l v y =
 
 -- the rules: only a request makes a participant vote yes, by its vote
 
-abbrev AskedTo : Bool → Transition → Type 0
-AskedTo vote NotDue = Unit {0}
-AskedTo vote (To p s) = Asked vote p
+abbrev AskedTo : Bool → Transition Participant → Type 0
+AskedTo vote Option.None = Unit {0}
+AskedTo vote (Option.Some (p, s)) = Asked vote p
 
 request_asked : (vote : Bool) (p : Participant) → Asked vote p → Asked vote (Participant.on_request vote p)
 request_asked vote p = request_cases (λ p p'. Asked vote p → Asked vote p') vote (λ a. cond_cases (Asked vote) vote VotingYes Closing (λ t. t) (λ t. tt)) (λ p a. a) p
@@ -110,17 +111,17 @@ timeout_asked vote all i p = timeout_cases (λ p t. AskedTo vote t) all i tt (te
 -- the calls: only a participant that is to vote yes writes a yes, to its own log
 
 own_yes : (votes i j : ℕ) (r : LogRecord) → YesBy (has i votes) r → Writes (YesBy (has j votes)) (Participant.own_call i j (Call.LogOnce r))
-own_yes votes i j r y = cond_cases (Writes (YesBy (has j votes))) (eqb j i) (Call.LogOnce r) Call.None (λ t. rw (eqb-true j i t) y) (λ t. tt)
+own_yes votes i j r y = cond_cases (Writes (YesBy (has j votes))) (eqb j i) (Option.Some (Call.LogOnce r)) Option.None (λ t. rw (eqb-true j i t) y) (λ t. tt)
 
 own_log : (votes i j : ℕ) (r : LogRecord) → Writes (YesBy (has j votes)) (Participant.own_call i j (Call.Log r))
-own_log votes i j r = cond_cases (Writes (YesBy (has j votes))) (eqb j i) (Call.Log r) Call.None (λ t. tt) (λ t. tt)
+own_log votes i j r = cond_cases (Writes (YesBy (has j votes))) (eqb j i) (Option.Some (Call.Log r)) Option.None (λ t. tt) (λ t. tt)
 
 pending_yes : (votes i : ℕ) (p : Participant) (j : ℕ) → Asked (has i votes) p → Writes (YesBy (has j votes)) (Participant.pending i p j)
 pending_yes votes i Waiting j a = tt
 pending_yes votes i VotingYes j a = own_yes votes i j Yes a
 pending_yes votes i Closing j a = own_yes votes i j Abort tt
 pending_yes votes i Uncertain j a = tt
-pending_yes votes i (Terminating h) j a = cond_cases (Writes (YesBy (has j votes))) (eqb j i || has j h) Call.None (Call.LogOnce Abort) (λ t. tt) (λ t. tt)
+pending_yes votes i (Terminating h) j a = cond_cases (Writes (YesBy (has j votes))) (eqb j i || has j h) Option.None (Option.Some (Call.LogOnce Abort)) (λ t. tt) (λ t. tt)
 pending_yes votes i RecordingCommit j a = own_log votes i j Commit
 pending_yes votes i RecordingAbort j a = own_log votes i j Abort
 pending_yes votes i DoneCommit j a = tt
@@ -130,34 +131,34 @@ pending_yes votes i Down j a = tt
 coordinator_pending_yes : (vote : Bool) (c : Coordinator) (j : ℕ) → Writes (YesBy vote) (Coordinator.pending c j)
 coordinator_pending_yes vote Coordinator.Idle j = tt
 coordinator_pending_yes vote (Coordinator.Waiting h) j = tt
-coordinator_pending_yes vote (Coordinator.Terminating h) j = cond_cases (Writes (YesBy vote)) (has j h) Call.None (Call.LogOnce Abort) (λ t. tt) (λ t. tt)
+coordinator_pending_yes vote (Coordinator.Terminating h) j = cond_cases (Writes (YesBy vote)) (has j h) Option.None (Option.Some (Call.LogOnce Abort)) (λ t. tt) (λ t. tt)
 coordinator_pending_yes vote Coordinator.Commit j = tt
 coordinator_pending_yes vote Coordinator.Abort j = tt
 coordinator_pending_yes vote Coordinator.Down j = tt
 coordinator_pending_yes vote Coordinator.Retired j = tt
 
-call_voted : (r : Release) (i j : ℕ) (l : Logged) (p : Participant) (x : Sent) → ParticipantCall r i j l p x → Voted r → Voted (called (suc i) j l.log r)
+call_voted : (r : Release) (i j : ℕ) (l : Logged) (p : Participant) (x : Option Message) → ParticipantCall r i j l p x → Voted r → Voted (called (suc i) j l.log r)
 call_voted r i j l p x a v =
     called_voted r (suc i) j l.log v
     (rw a.done at (perform_first (YesBy (has j r.votes)) (Participant.pending i (participant_of r i) j) (log_of r j) (pending_yes r.votes i (participant_of r i) j (v.asked i)) (v.written j)))
 
-coordinator_call_voted : (r : Release) (j : ℕ) (l : Logged) (c : Coordinator) (x : Sent) → CoordinatorCall r j l c x → Voted r → Voted (called 0 j l.log r)
+coordinator_call_voted : (r : Release) (j : ℕ) (l : Logged) (c : Coordinator) (x : Option Message) → CoordinatorCall r j l c x → Voted r → Voted (called 0 j l.log r)
 coordinator_call_voted r j l c x a v =
     called_voted r 0 j l.log v
     (rw a.done at (perform_first (YesBy (has j r.votes)) (Coordinator.pending r.coordinator j) (log_of r j) (coordinator_pending_yes (has j r.votes) r.coordinator j) (v.written j)))
 
 -- messages
 
-goes_voted : (r : Release) (t : CoordinatorTransition) → Voted r → Voted (coordinator_goes t r).next
-goes_voted r CoordinatorTransition.NotDue v = v
-goes_voted r (CoordinatorTransition.To c s) v = coordinator_voted r c s v
+goes_voted : (r : Release) (t : Transition Coordinator) → Voted r → Voted (coordinator_goes t r).next
+goes_voted r Option.None v = v
+goes_voted r (Option.Some (c, s)) v = coordinator_voted r c s v
 
 receive_voted : (r : Release) (m : Message) (i : ℕ) → Voted r → Voted (receive m i r).next
-receive_voted r Message.Request i v = to_voted r i _ Sent.Nothing v (request_asked (has i r.votes) (participant_of r i) (v.asked i))
+receive_voted r Message.Request i v = to_voted r i _ Option.None v (request_asked (has i r.votes) (participant_of r i) (v.asked i))
 receive_voted r Message.ReplyYes i v = goes_voted r (Coordinator.on_reply_yes (full r.n) i r.coordinator) v
 receive_voted r Message.ReplyAbort i v = goes_voted r (Coordinator.on_reply_abort r.coordinator) v
-receive_voted r Message.Commit i v = to_voted r i _ Sent.Nothing v (decision_asked (has i r.votes) Decision.Commit (participant_of r i) (v.asked i))
-receive_voted r Message.Abort i v = to_voted r i _ Sent.Nothing v (decision_asked (has i r.votes) Decision.Abort (participant_of r i) (v.asked i))
+receive_voted r Message.Commit i v = to_voted r i _ Option.None v (decision_asked (has i r.votes) Decision.Commit (participant_of r i) (v.asked i))
+receive_voted r Message.Abort i v = to_voted r i _ Option.None v (decision_asked (has i r.votes) Decision.Abort (participant_of r i) (v.asked i))
 
 caused_voted : (r : Release) {s : Step} {t : Report} → Cause r s t → Voted r → Voted t.next
 caused_voted r idles v = v

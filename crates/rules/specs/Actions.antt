@@ -1,7 +1,7 @@
 -- What each kind of step changes, and what stays: document 01, "Messages and schedule bytes" and "Whole lists and cuts". For every release, reached
 -- by a run or not, and every step, in range or not. Which party a step changes stands in specs/OneParty.antt. Proved in proofs/Actions.antt.
 -- Assumes nothing.
-use Rattle.std.specs.Prelude.{◌≡◌, ◌≢◌, ◌⊎◌, true, false, ℕ, zero, suc, ◌+◌, ◌≤◌, ◌<◌, length}
+use Rattle.std.specs.Prelude.{◌≡◌, ◌≢◌, ◌⊎◌, true, false, ℕ, zero, suc, ◌+◌, ◌≤◌, ◌<◌, length, Option}
 use Rattle.mask.specs.Mask.{has, full}
 use Rattle.store.specs.Log.{perform}
 use Rattle.participant.specs.Participant
@@ -9,7 +9,7 @@ use Rattle.coordinator.specs.Coordinator
 use Rattle.rules.specs.State.{participant_of, log_of, calls_of, message_place, mask_of, in_flight}
 use Rattle.rules.specs.Report.{moves, step_byte}
 use Rattle.rules.specs.Step.{idle, step, is_due}
-use Rattle.rules.specs.Types.{Call, Logged, Performed, Message, Sent, Decision, Participant, Closing, Down, To, Coordinator, CoordinatorTransition, Release, Step, Start, Deliver, Copy, Lose, Timeout, Crash, Restart, Outcome, Report}
+use Rattle.rules.specs.Types.{Call, Logged, Message, Decision, Participant, Closing, Down, Coordinator, Release, Step, Start, Deliver, Copy, Lose, Timeout, Crash, Restart, Outcome, Report}
 
 -- A step not due changes nothing and the run goes on
 
@@ -53,7 +53,7 @@ MessagesAsWritten =
 -- Store calls, 06 and 07
 
 -- the call that party p has pending on the log at place j
-abbrev pub pending_call : Release → ℕ → ℕ → Call
+abbrev pub pending_call : Release → ℕ → ℕ → Option Call
 pending_call r zero j = Coordinator.pending r.coordinator j
 pending_call r (suc i) j = Participant.pending i (participant_of r i) j
 
@@ -63,7 +63,7 @@ pub record CallMade (r : Release) (p q : ℕ) (t : Release) : Type 0 where
   pub place : ℕ
   pub on : q ≡ suc place
   pub left : Logged
-  pub performed : perform (pending_call r p place) (log_of r place) ≡ Performed.Done left
+  pub performed : perform (pending_call r p place) (log_of r place) ≡ Option.Some left
   pub log : place < length r.store.logs → log_of t place ≡ left.log
   pub logs : (k : ℕ) → k ≢ place → log_of t k ≡ log_of r k
   pub count : p < length r.calls → calls_of t p ≡ calls_of r p + 1
@@ -94,39 +94,39 @@ CallsAsWritten = (r : Release) (p q : ℕ) → CallAsWritten r p q (step r (Step
 -- A party goes where its rule leads, and what the rule sends is in flight then: a participant's message its own, the coordinator's to all. No other
 -- message comes or goes
 
-pub record ParticipantGoesTo (i : ℕ) (p : Participant) (x : Sent) (r t : Release) : Type 0 where
+pub record ParticipantGoesTo (i : ℕ) (p : Participant) (x : Option Message) (r t : Release) : Type 0 where
   pub state : i < length r.sites → participant_of t i ≡ p
-  pub sent : (m : Message) → x ≡ Sent.Sends m → message_place m < length r.messages → in_flight t m i ≡ true
-  pub others : (m : Message) → x ≡ Sent.Sends m → OthersInFlight m i r t
-  pub nothing : x ≡ Sent.Nothing → t.messages ≡ r.messages
+  pub sent : (m : Message) → x ≡ Option.Some m → message_place m < length r.messages → in_flight t m i ≡ true
+  pub others : (m : Message) → x ≡ Option.Some m → OthersInFlight m i r t
+  pub nothing : x ≡ Option.None → t.messages ≡ r.messages
 
-pub record CoordinatorGoesTo (c : Coordinator) (x : Sent) (r t : Release) : Type 0 where
+pub record CoordinatorGoesTo (c : Coordinator) (x : Option Message) (r t : Release) : Type 0 where
   pub state : t.coordinator ≡ c
-  pub sent : (m : Message) → x ≡ Sent.Sends m → message_place m < length r.messages → (i : ℕ) → i < r.n → in_flight t m i ≡ true
-  pub nobody_else : (m : Message) → x ≡ Sent.Sends m → message_place m < length r.messages → (i : ℕ) → r.n ≤ i → in_flight t m i ≡ false
-  pub others : (m k : Message) → x ≡ Sent.Sends m → k ≢ m → mask_of t k ≡ mask_of r k
-  pub nothing : x ≡ Sent.Nothing → t.messages ≡ r.messages
+  pub sent : (m : Message) → x ≡ Option.Some m → message_place m < length r.messages → (i : ℕ) → i < r.n → in_flight t m i ≡ true
+  pub nobody_else : (m : Message) → x ≡ Option.Some m → message_place m < length r.messages → (i : ℕ) → r.n ≤ i → in_flight t m i ≡ false
+  pub others : (m k : Message) → x ≡ Option.Some m → k ≢ m → mask_of t k ≡ mask_of r k
+  pub nothing : x ≡ Option.None → t.messages ≡ r.messages
 
 -- of each kind but crash and restart, which stand below. For deliveries it is said of the copy, which does what the delivery does
 pub record GoesByRule (r : Release) : Type 0 where
-  pub start : (c : Coordinator) (x : Sent) → Coordinator.on_start r.coordinator ≡ CoordinatorTransition.To c x → CoordinatorGoesTo c x r (step r Start).next
+  pub start : (c : Coordinator) (x : Option Message) → Coordinator.on_start r.coordinator ≡ Option.Some (c, x) → CoordinatorGoesTo c x r (step r Start).next
   pub request : (i : ℕ) → in_flight r Message.Request i ≡ true
-      → ParticipantGoesTo i (Participant.on_request (has i r.votes) (participant_of r i)) Sent.Nothing r (step r (Copy Message.Request (suc i))).next
-  pub reply_yes : (i : ℕ) (c : Coordinator) (x : Sent) → in_flight r Message.ReplyYes i ≡ true
-      → Coordinator.on_reply_yes (full r.n) i r.coordinator ≡ CoordinatorTransition.To c x → CoordinatorGoesTo c x r (step r (Copy Message.ReplyYes (suc i))).next
-  pub reply_abort : (i : ℕ) (c : Coordinator) (x : Sent) → in_flight r Message.ReplyAbort i ≡ true
-      → Coordinator.on_reply_abort r.coordinator ≡ CoordinatorTransition.To c x → CoordinatorGoesTo c x r (step r (Copy Message.ReplyAbort (suc i))).next
+      → ParticipantGoesTo i (Participant.on_request (has i r.votes) (participant_of r i)) Option.None r (step r (Copy Message.Request (suc i))).next
+  pub reply_yes : (i : ℕ) (c : Coordinator) (x : Option Message) → in_flight r Message.ReplyYes i ≡ true
+      → Coordinator.on_reply_yes (full r.n) i r.coordinator ≡ Option.Some (c, x) → CoordinatorGoesTo c x r (step r (Copy Message.ReplyYes (suc i))).next
+  pub reply_abort : (i : ℕ) (c : Coordinator) (x : Option Message) → in_flight r Message.ReplyAbort i ≡ true
+      → Coordinator.on_reply_abort r.coordinator ≡ Option.Some (c, x) → CoordinatorGoesTo c x r (step r (Copy Message.ReplyAbort (suc i))).next
   pub commit : (i : ℕ) → in_flight r Message.Commit i ≡ true
-      → ParticipantGoesTo i (Participant.on_decision Decision.Commit (participant_of r i)) Sent.Nothing r (step r (Copy Message.Commit (suc i))).next
+      → ParticipantGoesTo i (Participant.on_decision Decision.Commit (participant_of r i)) Option.None r (step r (Copy Message.Commit (suc i))).next
   pub abort : (i : ℕ) → in_flight r Message.Abort i ≡ true
-      → ParticipantGoesTo i (Participant.on_decision Decision.Abort (participant_of r i)) Sent.Nothing r (step r (Copy Message.Abort (suc i))).next
-  pub answer : (i j : ℕ) (l : Logged) (p : Participant) (x : Sent) → perform (pending_call r (suc i) j) (log_of r j) ≡ Performed.Done l
-      → Participant.on_answer (full r.n) i (participant_of r i) j l.answer ≡ To p x → ParticipantGoesTo i p x r (step r (Step.Call (suc i) (suc j))).next
-  pub coordinator_answer : (j : ℕ) (l : Logged) (c : Coordinator) (x : Sent) → perform (pending_call r 0 j) (log_of r j) ≡ Performed.Done l
-      → Coordinator.on_answer (full r.n) r.coordinator j l.answer ≡ CoordinatorTransition.To c x → CoordinatorGoesTo c x r (step r (Step.Call 0 (suc j))).next
-  pub timeout : (i : ℕ) (p : Participant) (x : Sent) → Participant.on_timeout (full r.n) i (participant_of r i) ≡ To p x
+      → ParticipantGoesTo i (Participant.on_decision Decision.Abort (participant_of r i)) Option.None r (step r (Copy Message.Abort (suc i))).next
+  pub answer : (i j : ℕ) (l : Logged) (p : Participant) (x : Option Message) → perform (pending_call r (suc i) j) (log_of r j) ≡ Option.Some l
+      → Participant.on_answer (full r.n) i (participant_of r i) j l.answer ≡ Option.Some (p, x) → ParticipantGoesTo i p x r (step r (Step.Call (suc i) (suc j))).next
+  pub coordinator_answer : (j : ℕ) (l : Logged) (c : Coordinator) (x : Option Message) → perform (pending_call r 0 j) (log_of r j) ≡ Option.Some l
+      → Coordinator.on_answer (full r.n) r.coordinator j l.answer ≡ Option.Some (c, x) → CoordinatorGoesTo c x r (step r (Step.Call 0 (suc j))).next
+  pub timeout : (i : ℕ) (p : Participant) (x : Option Message) → Participant.on_timeout (full r.n) i (participant_of r i) ≡ Option.Some (p, x)
       → ParticipantGoesTo i p x r (step r (Timeout (suc i))).next
-  pub coordinator_timeout : (c : Coordinator) (x : Sent) → Coordinator.on_timeout r.coordinator ≡ CoordinatorTransition.To c x
+  pub coordinator_timeout : (c : Coordinator) (x : Option Message) → Coordinator.on_timeout r.coordinator ≡ Option.Some (c, x)
       → CoordinatorGoesTo c x r (step r (Timeout 0)).next
 
 abbrev pub GoAsRuled : Type 0

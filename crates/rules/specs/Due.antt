@@ -1,12 +1,12 @@
 -- When a step is due, in document 01's own list of states. The rules give the same answer: proved in proofs/DueAsWritten.antt.
 -- Assumes nothing.
-use Rattle.std.specs.Prelude.{◌≡◌, Bool, false, not, ◌||◌, List, [], ◌∷◌, ℕ, zero, suc, eqb}
+use Rattle.std.specs.Prelude.{◌≡◌, Bool, false, not, ◌||◌, List, [], ◌∷◌, ℕ, zero, suc, eqb, Option}
 use Rattle.store.specs.Log.{perform}
 use Rattle.participant.specs.Participant
 use Rattle.coordinator.specs.Coordinator
 use Rattle.rules.specs.State.{participant_of, log_of, in_flight}
 use Rattle.rules.specs.Step.{is_due}
-use Rattle.rules.specs.Types.{LogRecord, None, Yes, Abort, Commit, Performed, Message, Participant, Waiting, VotingYes, Uncertain, Terminating, RecordingCommit, RecordingAbort, Down, Coordinator, Release, Step, Start, Deliver, Copy, Lose, Timeout, Crash, Restart}
+use Rattle.rules.specs.Types.{LogRecord, None, Yes, Abort, Commit, Logged, Message, Participant, Waiting, VotingYes, Uncertain, Terminating, RecordingCommit, RecordingAbort, Down, Coordinator, Release, Step, Start, Deliver, Copy, Lose, Timeout, Crash, Restart}
 
 -- in one of these states. A heard mask makes no difference
 abbrev pub in_states : {A : Type 0} → (A → ℕ) → List A → A → Bool
@@ -21,9 +21,9 @@ can_get p Abort = not (in_states Participant.state_number (RecordingCommit ∷ [
 can_get p Commit = not (in_states Participant.state_number (VotingYes ∷ RecordingAbort ∷ []) p)
 
 -- 06 and 07 when that party has that call pending, its Log would not be refused, and the answer is one its state can get
-abbrev pub answerable : Participant → Performed → Bool
-answerable p Performed.Refused = false
-answerable p (Performed.Done x) = can_get p x.answer
+abbrev pub answerable : Participant → Option Logged → Bool
+answerable p Option.None = false
+answerable p (Option.Some x) = can_get p x.answer
 
 abbrev pub call_due : Release → ℕ → ℕ → Bool
 call_due r zero zero = false

@@ -1,13 +1,13 @@
 -- One step of a release, for each of the kinds 02 to 0A. A rule of a party says what is due and what it leads to; here that is applied to the
 -- release. Places count from 0, numbers of a step from 1, and party 0 is the coordinator. Assumes nothing.
-use Rattle.std.specs.Prelude.{Bool, true, false, cond, ℕ, zero, suc, ◌+◌, get_or, set}
+use Rattle.std.specs.Prelude.{Bool, true, false, cond, ℕ, zero, suc, ◌+◌, get_or, set, Option}
 use Rattle.mask.specs.Mask.{has, insert, remove, full}
 use Rattle.store.specs.Log.{perform}
 use Rattle.participant.specs.Participant
 use Rattle.coordinator.specs.Coordinator
 use Rattle.rules.specs.State.{participant_of, log_of, message_place, mask_of, in_flight}
 use Rattle.rules.specs.Report.{moves, known, coordinator_known, learnt, closes, with_closed}
-use Rattle.rules.specs.Types.{LogPair, Logged, Performed, Message, Sent, Decision, Participant, Transition, NotDue, To, Coordinator, CoordinatorTransition, Release, Step, Start, Deliver, Copy, Lose, Timeout, Crash, Restart, Outcome, Report}
+use Rattle.rules.specs.Types.{LogPair, Logged, Message, Decision, Participant, Transition, Coordinator, Release, Step, Start, Deliver, Copy, Lose, Timeout, Crash, Restart, Outcome, Report}
 
 -- A step not due changes nothing and the run goes on
 abbrev pub idle : Release → Report
@@ -33,48 +33,48 @@ send_all m r = with_mask m (full r.n) r
 
 -- participant i goes to a state, and sends its reply
 
-abbrev pub reply : Sent → ℕ → Release → Release
-reply Sent.Nothing i r = r
-reply (Sent.Sends m) i r = send m i r
+abbrev pub reply : Option Message → ℕ → Release → Release
+reply Option.None i r = r
+reply (Option.Some m) i r = send m i r
 
 abbrev pub with_participant : ℕ → Participant → Release → Release
 with_participant i p r =
     record { n = r.n; votes = r.votes; coordinator = r.coordinator; messages = r.messages; sites = set r.sites i (record { participant = p }); store = r.store; calls = r.calls }
 
-unfoldable pub participant_to : ℕ → Participant → Sent → Release → Report
+unfoldable pub participant_to : ℕ → Participant → Option Message → Release → Report
 participant_to i p s r =
     record { outcome = learnt (known (participant_of r i)) (known p); closed = false; next = with_participant i p (reply s i r) }
 
-abbrev pub participant_goes : ℕ → Transition → Release → Report
-participant_goes i NotDue r = idle r
-participant_goes i (To p s) r = participant_to i p s r
+abbrev pub participant_goes : ℕ → Transition Participant → Release → Report
+participant_goes i Option.None r = idle r
+participant_goes i (Option.Some (p, s)) r = participant_to i p s r
 
 -- the coordinator goes to a state, and sends to all
 
-abbrev pub broadcast : Sent → Release → Release
-broadcast Sent.Nothing r = r
-broadcast (Sent.Sends m) r = send_all m r
+abbrev pub broadcast : Option Message → Release → Release
+broadcast Option.None r = r
+broadcast (Option.Some m) r = send_all m r
 
 abbrev pub with_coordinator : Coordinator → Release → Release
 with_coordinator c r =
     record { n = r.n; votes = r.votes; coordinator = c; messages = r.messages; sites = r.sites; store = r.store; calls = r.calls }
 
-unfoldable pub coordinator_to : Coordinator → Sent → Release → Report
+unfoldable pub coordinator_to : Coordinator → Option Message → Release → Report
 coordinator_to c s r =
     record { outcome = learnt (coordinator_known r.coordinator) (coordinator_known c); closed = false; next = with_coordinator c (broadcast s r) }
 
-abbrev pub coordinator_goes : CoordinatorTransition → Release → Report
-coordinator_goes CoordinatorTransition.NotDue r = idle r
-coordinator_goes (CoordinatorTransition.To c s) r = coordinator_to c s r
+abbrev pub coordinator_goes : Transition Coordinator → Release → Report
+coordinator_goes Option.None r = idle r
+coordinator_goes (Option.Some (c, s)) r = coordinator_to c s r
 
 -- a message delivered: requests and decisions to participant i, replies from it to the coordinator. A down party drops it without effect
 
 abbrev pub receive : Message → ℕ → Release → Report
-receive Message.Request i r = participant_to i (Participant.on_request (has i r.votes) (participant_of r i)) Sent.Nothing r
+receive Message.Request i r = participant_to i (Participant.on_request (has i r.votes) (participant_of r i)) Option.None r
 receive Message.ReplyYes i r = coordinator_goes (Coordinator.on_reply_yes (full r.n) i r.coordinator) r
 receive Message.ReplyAbort i r = coordinator_goes (Coordinator.on_reply_abort r.coordinator) r
-receive Message.Commit i r = participant_to i (Participant.on_decision Decision.Commit (participant_of r i)) Sent.Nothing r
-receive Message.Abort i r = participant_to i (Participant.on_decision Decision.Abort (participant_of r i)) Sent.Nothing r
+receive Message.Commit i r = participant_to i (Participant.on_decision Decision.Commit (participant_of r i)) Option.None r
+receive Message.Abort i r = participant_to i (Participant.on_decision Decision.Abort (participant_of r i)) Option.None r
 
 -- a due call of party p on log j: the log that it leaves, and one call more
 
@@ -92,27 +92,27 @@ called p j l r = with_log j l (counted p r)
 -- A call is due when that party has it pending, its Log would not be refused, and the answer is one its state can get. The log changes;
 -- where the answer is heard (kind 06, not 07) the party does too. Either way it is reported whether another's log was closed (request 2026-01)
 
-abbrev pub participant_answered : Bool → ℕ → ℕ → Logged → Transition → Release → Report
-participant_answered heard i j x NotDue r = idle r
-participant_answered true i j x (To p s) r = with_closed (closes (suc i) j x) (participant_to i p s (called (suc i) j x.log r))
-participant_answered false i j x (To p s) r = with_closed (closes (suc i) j x) (moved (called (suc i) j x.log r))
+abbrev pub participant_answered : Bool → ℕ → ℕ → Logged → Transition Participant → Release → Report
+participant_answered heard i j x Option.None r = idle r
+participant_answered true i j x (Option.Some (p, s)) r = with_closed (closes (suc i) j x) (participant_to i p s (called (suc i) j x.log r))
+participant_answered false i j x (Option.Some (p, s)) r = with_closed (closes (suc i) j x) (moved (called (suc i) j x.log r))
 
-abbrev pub participant_performed : Bool → ℕ → ℕ → Performed → Release → Report
-participant_performed heard i j Performed.Refused r = idle r
-participant_performed heard i j (Performed.Done x) r =
+abbrev pub participant_performed : Bool → ℕ → ℕ → Option Logged → Release → Report
+participant_performed heard i j Option.None r = idle r
+participant_performed heard i j (Option.Some x) r =
     participant_answered heard i j x (Participant.on_answer (full r.n) i (participant_of r i) j x.answer) r
 
 unfoldable pub participant_calls : Bool → ℕ → ℕ → Release → Report
 participant_calls heard i j r = participant_performed heard i j (perform (Participant.pending i (participant_of r i) j) (log_of r j)) r
 
-abbrev pub coordinator_answered : Bool → ℕ → Logged → CoordinatorTransition → Release → Report
-coordinator_answered heard j x CoordinatorTransition.NotDue r = idle r
-coordinator_answered true j x (CoordinatorTransition.To c s) r = with_closed (closes 0 j x) (coordinator_to c s (called 0 j x.log r))
-coordinator_answered false j x (CoordinatorTransition.To c s) r = with_closed (closes 0 j x) (moved (called 0 j x.log r))
+abbrev pub coordinator_answered : Bool → ℕ → Logged → Transition Coordinator → Release → Report
+coordinator_answered heard j x Option.None r = idle r
+coordinator_answered true j x (Option.Some (c, s)) r = with_closed (closes 0 j x) (coordinator_to c s (called 0 j x.log r))
+coordinator_answered false j x (Option.Some (c, s)) r = with_closed (closes 0 j x) (moved (called 0 j x.log r))
 
-abbrev pub coordinator_performed : Bool → ℕ → Performed → Release → Report
-coordinator_performed heard j Performed.Refused r = idle r
-coordinator_performed heard j (Performed.Done x) r =
+abbrev pub coordinator_performed : Bool → ℕ → Option Logged → Release → Report
+coordinator_performed heard j Option.None r = idle r
+coordinator_performed heard j (Option.Some x) r =
     coordinator_answered heard j x (Coordinator.on_answer (full r.n) r.coordinator j x.answer) r
 
 unfoldable pub coordinator_calls : Bool → ℕ → Release → Report

@@ -5,16 +5,12 @@ pub use Rattle.store.specs.declared.LogPair.{LogPair}
 pub use Rattle.store.specs.declared.Store.{Store}
 pub use Rattle.store.specs.declared.Call.{Call}
 pub use Rattle.store.specs.declared.Logged.{Logged}
-pub use Rattle.store.specs.declared.Performed.{Performed}
 pub use Rattle.message.specs.declared.Message.{Message}
-pub use Rattle.message.specs.declared.Sent.{Sent}
+pub use Rattle.message.specs.Message.{Transition}
 pub use Rattle.message.specs.declared.Decision.{Decision}
 pub use Rattle.participant.specs.declared.Participant.{Participant}
 pub use Rattle.participant.specs.declared.Participant.TheVariants.{Waiting, VotingYes, Closing, Uncertain, Terminating, RecordingCommit, RecordingAbort, DoneCommit, DoneAbort, Down}
-pub use Rattle.participant.specs.declared.Transition.{Transition}
-pub use Rattle.participant.specs.declared.Transition.TheVariants.{NotDue, To}
 pub use Rattle.coordinator.specs.declared.Coordinator.{Coordinator}
-pub use Rattle.coordinator.specs.declared.Transition.{Transition as CoordinatorTransition}
 pub use Rattle.rules.specs.declared.Site.{Site}
 pub use Rattle.rules.specs.declared.Release.{Release}
 pub use Rattle.kind.specs.declared.Step.{Step}

@@ -34,13 +34,13 @@ pub struct Release {
 // What a step that closed another's log adds to its report byte.
 pub const CLOSED: u8 = 4;
 
-// What a step reports.
-#[derive(Clone, Copy)]
+// What a step reports, with its number.
+#[derive(Clone, Copy, Debug, PartialEq, Eq)]
 pub enum Outcome {
-    Idle,
-    Moved,
-    Commit,
-    Abort,
+    Idle = 0,
+    Moved = 1,
+    Commit = 2,
+    Abort = 3,
 }
 
 // A step's outcome, whether it closed another's log, and the release after it.

@@ -7,9 +7,10 @@ use Prim.Native.Nat.{ℕ, zero, suc}
 use native.Mathlib.Omega.{arith}
 use lib.Dec.{eqb}
 use lib.ListN.{length, replicate}
-use Rattle.number.specs.Refusal.{Handed, hands, accepted}
+use Rattle.std.specs.Prelude.{Option, Some, None}
+use Rattle.number.specs.Refusal.{Handed, hands, refusal_number, accepted}
 use Rattle.kind.specs.Step.{AllInRange}
-use Rattle.schedule.specs.Types.{Kind, Step, Header, Before}
+use Rattle.schedule.specs.Types.{Kind, Step, Header, Refusal}
 use Rattle.schedule.specs.Reader.{ReadHanded, reader_hands}
 use Rattle.schedule.specs.Context.{all_of}
 use Rattle.schedule.specs.Schedule.{Reading, Accepted, Refused, steps_from, read_schedule, steps_bytes, schedule_bytes}
@@ -27,7 +28,7 @@ all_hold holds (c ∷ cs) = holds c && all_hold holds cs
 
 abbrev reading_hands : Reading → Handed
 reading_hands (Accepted h steps) = hands accepted (length steps)
-reading_hands (Refused k place) = hands k place
+reading_hands (Refused k place) = hands (refusal_number k) place
 
 record ScheduleCase : Type 0 where
   bytes : List ℕ
@@ -112,24 +113,24 @@ longest_read : read_schedule (schedule_bytes one_participant (replicate 32765 St
 longest_read =
     steps_kept one_participant (replicate 32765 Step.Start) refl (starts_in_range 1 32765) (omega (arith, starts_length 32765))
 
-longer_refused : read_schedule (schedule_bytes one_participant (replicate 32766 Step.Start)) ≡ Refused 1 0
+longer_refused : read_schedule (schedule_bytes one_participant (replicate 32766 Step.Start)) ≡ Refused Refusal.EmptyOrTooLong 0
 longer_refused =
-    first_refusal.given (schedule_bytes one_participant (replicate 32766 Step.Start)) 1 0 (too_long (omega (arith, starts_length 32766)))
+    first_refusal.given (schedule_bytes one_participant (replicate 32766 Step.Start)) Refusal.EmptyOrTooLong 0 (too_long (omega (arith, starts_length 32766)))
 
 -- One record after a header, or as the header: its length and its numbers, or the refusal's number and place
 
 record ReadCase : Type 0 where
   bytes : List ℕ
-  told : Before
+  told : Option Header
   handed : ReadHanded
 
-abbrev read : List ℕ → Before → ReadHanded → ReadCase
+abbrev read : List ℕ → Option Header → ReadHanded → ReadCase
 read bytes told x = record { bytes = bytes; told = told; handed = x }
 
 -- words of the table
 
-abbrev after : Kind → ℕ → ℕ → Before
-after kind n votes = Before.Header (record { kind = kind; n = n; votes = votes })
+abbrev after : Kind → ℕ → ℕ → Option Header
+after kind n votes = Some (record { kind = kind; n = n; votes = votes })
 
 abbrev yields : ℕ → ℕ → ℕ → ℕ → ReadHanded
 yields l k a b = record { number = 0; value = l; kind = k; first = a; second = b }
@@ -161,8 +162,8 @@ reads =
     ∷ read (11 ∷ 1 ∷ 0 ∷ 0 ∷ 0 ∷ 0 ∷ []) (after Kind.WideHeader 33 0) (refuses 4 0)
     ∷ read (2 ∷ []) (after Kind.Start 1 0) (refuses 5 0)
     -- the header; the four bytes of a mask, low byte first
-    ∷ read (1 ∷ 8 ∷ 129 ∷ 2 ∷ []) Before.Nothing (yields 3 1 8 129)
-    ∷ read (11 ∷ 20 ∷ 1 ∷ 2 ∷ 4 ∷ 0 ∷ []) Before.Nothing (yields 6 11 20 262657)
+    ∷ read (1 ∷ 8 ∷ 129 ∷ 2 ∷ []) None (yields 3 1 8 129)
+    ∷ read (11 ∷ 20 ∷ 1 ∷ 2 ∷ 4 ∷ 0 ∷ []) None (yields 6 11 20 262657)
     ∷ []
 
 reads_hold : map (λ c. reader_hands c.bytes c.told) reads ≡ map (λ c. c.handed) reads

@@ -5,6 +5,7 @@ use Prim.Native.Nat.{ℕ, ◌*◌, ◌^◌, ◌≤◌, ◌<◌}
 use native.Mathlib.Omega.{arith}
 use lib.Pow.{pow_mono, pow_pos}
 use borrow.Author.Tests.{leb-true, le-leb}
+use Rattle.std.specs.Prelude.{None}
 use Rattle.number.proofs.Laws.{and_left, and_right, and_true}
 use Rattle.number.proofs.LowBytes.{low_bits}
 use Rattle.mask.specs.Mask.{within, full}
@@ -12,7 +13,7 @@ use Rattle.store.specs.Log.{places}
 use Rattle.kind.specs.Kind.{kind_number, first_width, second_width, is_header, room}
 use Rattle.kind.specs.Step.{number_in_range, numbers_in_range}
 use Rattle.kind.proofs.Numbers.{between, numbers_fit, header_widths, room_most, room_bits, no_room}
-use Rattle.schedule.specs.Types.{Kind, Header, Record, Before}
+use Rattle.schedule.specs.Types.{Kind, Header, Record}
 use Rattle.schedule.specs.Record.{header_in_range, header_record, record_header, record_in_range}
 use Rattle.schedule.specs.RoundTrip.{may_follow}
 
@@ -40,7 +41,7 @@ header_is h q = go (is_header h.kind) refl
 pub header_record_lem : (n : ℕ) (h : Header) → header_in_range h ≡ true → record_in_range n (header_record h) ≡ true
 header_record_lem n h q = rw (header_is h q) q
 
-pub header_follows : (h : Header) → header_in_range h ≡ true → may_follow Before.Nothing (header_record h) ≡ true
+pub header_follows : (h : Header) → header_in_range h ≡ true → may_follow None (header_record h) ≡ true
 header_follows h q = and_true _ _ (header_is h q) (header_record_lem 0 h q)
 
 pub header_votes : (h : Header) → header_in_range h ≡ true → within h.n h.votes ≡ true

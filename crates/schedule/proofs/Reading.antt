@@ -9,14 +9,17 @@ use lib.Dec.{eqb, leb, ltb, lit≤}
 use lib.ListN.{length, get_or, drop, length-drop}
 use lib.Seq.{drop_at}
 use borrow.Author.Tests.{ltb-true, ltb-false, le-ltb}
-use Rattle.number.specs.Refusal.{empty_or_too_long, out_of_range}
+use Rattle.std.specs.Prelude.{Option, Some, None, Ok, Err}
+use Rattle.number.specs.Refusal.{refusal_number}
+use Rattle.number.specs.Refusal as number
+use Rattle.number.specs.declared.Refused as declared
 use Rattle.number.proofs.Laws.{and_left, and_right}
 use Rattle.kind.specs.Kind.{kind_of, is_kind, body_length, is_header}
 use Rattle.kind.specs.Step.{AllInRange}
 use Rattle.kind.proofs.Numbers.{kind_decoded}
-use Rattle.schedule.specs.Types.{Kind, Step, Header, Record, Before, Read}
+use Rattle.schedule.specs.Types.{Kind, Step, Header, Record, Refusal}
 use Rattle.schedule.specs.Record.{header_record, record_header, step_record, record_step, header_in_range, record_length, record_bytes, longest}
-use Rattle.schedule.specs.Reader.{record_at, is_placed, in_range_after, kind_answer, reader_answers}
+use Rattle.schedule.specs.Reader.{Read, refused, record_at, is_placed, in_range_after, kind_answer, reader_answers}
 use Rattle.schedule.specs.Schedule.{Reading, Accepted, Refused, with_step, and_then, steps_from, steps_after, read_schedule, steps_bytes, schedule_bytes}
 use Rattle.schedule.specs.RoundTrip.{may_follow, AllBytes, RefusalOf, too_long, at_header, at_step}
 use Rattle.schedule.proofs.Laws.{header_follows}
@@ -35,22 +38,22 @@ skipped h place (x ∷ bytes) (suc skip) =
     skipped h (suc place) bytes skip ∙ ap (λ p. steps_from h p (drop skip bytes) 0) e
 
 -- a record that the reader yields comes first, and then what follows it: no byte of it is looked at again
-pub read_on : (h : Header) (place : ℕ) (bytes : List ℕ) (r : Record) (l : ℕ) → reader_answers bytes (Before.Header h) ≡ Read.Record r l
+pub read_on : (h : Header) (place : ℕ) (bytes : List ℕ) (r : Record) (l : ℕ) → reader_answers bytes (Some h) ≡ Ok (r, l)
     → steps_from h place bytes 0 ≡ with_step (record_step r) (steps_from h (place + l) (drop l bytes) 0)
 unfolding steps_from
 read_on h place [] r l e = let z : ◌≡◌ {A = ℕ} 0 1 = cc in absurd (omega arith)
 read_on h place (x ∷ bytes) r l e =
-    let y = read_yielded (x ∷ bytes) (Before.Header h) r l e in
+    let y = read_yielded (x ∷ bytes) (Some h) r l e in
     let there : suc place + (l - 1) ≡ place + l = omega (arith, y.size) in
     let cut : suc (l - 1) ≡ l = omega (arith, y.size) in
     ap (λ y. and_then place y (steps_from h (suc place) bytes)) e
     ∙ ap (with_step (record_step r)) (skipped h (suc place) bytes (l - 1) ∙ ap₂ (λ (p : ℕ) (b : List ℕ). steps_from h p b 0) there (ap (λ k. drop k (x ∷ bytes)) cut))
 
 -- a record in range comes first, and then what follows its bytes
-first_step : (h : Header) (place : ℕ) (r : Record) (rest : List ℕ) → may_follow (Before.Header h) r ≡ true
+first_step : (h : Header) (place : ℕ) (r : Record) (rest : List ℕ) → may_follow (Some h) r ≡ true
     → steps_from h place (record_bytes r ++ rest) 0 ≡ with_step (record_step r) (steps_from h (place + record_length r) rest 0)
 first_step h place r rest q =
-    read_on h place (record_bytes r ++ rest) r (record_length r) (read_front (Before.Header h) r rest q)
+    read_on h place (record_bytes r ++ rest) r (record_length r) (read_front (Some h) r rest q)
     ∙ ap (λ l. with_step (record_step r) (steps_from h (place + record_length r) l 0)) (drop_at (record_bytes r) rest (record_length r) (record_length_lem r))
 
 -- the same for a list of steps
@@ -90,7 +93,7 @@ pub after_header : (h : Header) → header_in_range h ≡ true → (rest : List 
 after_header h g rest fits =
     simp (
       le-ltb longest (length (record_bytes (header_record h) ++ rest)) fits,
-      read_front Before.Nothing (header_record h) rest (header_follows h g),
+      read_front None (header_record h) rest (header_follows h g),
       drop_at (record_bytes (header_record h)) rest (record_length (header_record h)) (record_length_lem (header_record h)),
     )
 
@@ -99,14 +102,15 @@ after_header h g rest fits =
 -- the reader's refusals name the place of its first byte, and their numbers are 1 to 5
 
 abbrev AtFirst : Read → Type 0
-AtFirst (Read.Record r l) = Unit {0}
-AtFirst (Read.Refused k p) = (p ≡ 0) × (k ≤ out_of_range) × (1 ≤ k)
+AtFirst (Ok (r, l)) = Unit {0}
+AtFirst (Err k) =
+    (k.value ≡ 0) × (refusal_number k.refusal ≤ refusal_number Refusal.OutOfRange) × (1 ≤ refusal_number k.refusal)
 
 either : (b : Bool) (x y : Read) → AtFirst x → AtFirst y → AtFirst (cond b x y)
 either true x y p q = p
 either false x y p q = q
 
-at_first : (bytes : List ℕ) (before : Before) → AtFirst (reader_answers bytes before)
+at_first : (bytes : List ℕ) (before : Option Header) → AtFirst (reader_answers bytes before)
 at_first bytes before =
     either (eqb (length bytes) 0) _ _ (refl, lit≤ tt, lit≤ tt)
     (either (is_kind (get_or bytes 0 0)) _ _ (known (kind_of (get_or bytes 0 0))) (refl, lit≤ tt, lit≤ tt))
@@ -115,26 +119,27 @@ at_first bytes before =
     known k =
         let r : Record = record_at bytes k in
         either (leb (length bytes) (body_length k)) _ _ (refl, lit≤ tt, lit≤ tt)
-        (either (is_placed before k) _ _ (either (in_range_after before r) (Read.Record r (record_length r)) _ tt (refl, lit≤ tt, lit≤ tt)) (refl, lit≤ tt, lit≤ tt))
+        (either (is_placed before k) _ _ (either (in_range_after before r) (Ok (r, (record_length r))) _ tt (refl, lit≤ tt, lit≤ tt)) (refl, lit≤ tt, lit≤ tt))
 
-pub refused_at_first : (bytes : List ℕ) (before : Before) (k p : ℕ) → reader_answers bytes before ≡ Read.Refused k p → p ≡ 0
-refused_at_first bytes before k p e = (subst AtFirst e (at_first bytes before)).0
+pub refused_at_first : (bytes : List ℕ) (before : Option Header) (k : declared.Refused) → reader_answers bytes before ≡ Err k → k.value ≡ 0
+refused_at_first bytes before k e = (subst AtFirst e (at_first bytes before)).0
 
-pub refused_number : (bytes : List ℕ) (before : Before) (k p : ℕ) → reader_answers bytes before ≡ Read.Refused k p → k ≤ out_of_range
-refused_number bytes before k p e = (subst AtFirst e (at_first bytes before)).1
+pub refused_number : (bytes : List ℕ) (before : Option Header) (k : declared.Refused) → reader_answers bytes before ≡ Err k
+    → refusal_number k.refusal ≤ refusal_number Refusal.OutOfRange
+refused_number bytes before k e = (subst AtFirst e (at_first bytes before)).1
 
-refused_some : (bytes : List ℕ) (before : Before) (k p : ℕ) → reader_answers bytes before ≡ Read.Refused k p → 1 ≤ k
-refused_some bytes before k p e = (subst AtFirst e (at_first bytes before)).2
+refused_some : (bytes : List ℕ) (before : Option Header) (k : declared.Refused) → reader_answers bytes before ≡ Err k → 1 ≤ refusal_number k.refusal
+refused_some bytes before k e = (subst AtFirst e (at_first bytes before)).2
 
 -- steps that are read, and then a record that is refused
-pub record StoppedAt (h : Header) (place : ℕ) (bytes : List ℕ) (k at : ℕ) : Type 0 where
+pub record StoppedAt (h : Header) (place : ℕ) (bytes : List ℕ) (k : Refusal) (at : ℕ) : Type 0 where
   pub steps : List Step
   pub rest : List ℕ
   pub ranged : AllInRange h.n steps
   pub long : length bytes ≡ length (steps_bytes steps) + length rest
   pub split : AllBytes bytes → bytes ≡ steps_bytes steps ++ rest
   pub some : 0 < length rest
-  pub refused : reader_answers rest (Before.Header h) ≡ Read.Refused k 0
+  pub refused : reader_answers rest (Some h) ≡ Err (number.refused k 0)
   pub there : at ≡ place + length (steps_bytes steps)
 
 -- what a reading says of the bytes from a place on
@@ -149,7 +154,7 @@ record StandsBefore (bytes : List ℕ) (r : Record) (rest : List ℕ) : Type 0 w
   front : AllBytes bytes → bytes ≡ record_bytes r ++ rest
   others : AllBytes bytes → AllBytes rest
 
-says_more : (h : Header) (place : ℕ) (bytes : List ℕ) (r : Record) (rest : List ℕ) → may_follow (Before.Header h) r ≡ true → StandsBefore bytes r rest → (x : Reading)
+says_more : (h : Header) (place : ℕ) (bytes : List ℕ) (r : Record) (rest : List ℕ) → may_follow (Some h) r ≡ true → StandsBefore bytes r rest → (x : Reading)
     → Says h (place + record_length r) rest x → Says h place bytes (with_step (record_step r) x)
 says_more h place bytes r rest q z (Accepted g steps) y =
     let s = record_step_lem h r q in
@@ -184,13 +189,13 @@ says h place [] (suc skip) fits = (refl, tt, refl, λ b. refl)
 says h place (x ∷ bytes) (suc skip) fits =
     let e : suc place + skip ≡ place + suc skip = omega arith in
     rw e at (says h (suc place) bytes skip (omega arith))
-says h place (x ∷ bytes) zero fits = rw (add-zero place) (read (reader_answers (x ∷ bytes) (Before.Header h)) refl (λ skip. says h (suc place) bytes skip))
+says h place (x ∷ bytes) zero fits = rw (add-zero place) (read (reader_answers (x ∷ bytes) (Some h)) refl (λ skip. says h (suc place) bytes skip))
   where
-    read : (y : Read) → reader_answers (x ∷ bytes) (Before.Header h) ≡ y
+    read : (y : Read) → reader_answers (x ∷ bytes) (Some h) ≡ y
         → ((skip : ℕ) → skip ≤ length bytes → Says h (suc place + skip) (drop skip bytes) (steps_from h (suc place) bytes skip))
         → Says h place (x ∷ bytes) (and_then place y (steps_from h (suc place) bytes))
-    read (Read.Record r l) e next =
-        let y = read_yielded (x ∷ bytes) (Before.Header h) r l e in
+    read (Ok (r, l)) e next =
+        let y = read_yielded (x ∷ bytes) (Some h) r l e in
         let longer : l ≡ suc (l - 1) = omega (arith, y.size) in
         let rest : drop l (x ∷ bytes) ≡ drop (l - 1) bytes = ap (λ i. drop i (x ∷ bytes)) longer in
         let there : suc place + (l - 1) ≡ place + record_length r = omega (arith, y.size) in
@@ -199,8 +204,8 @@ says h place (x ∷ bytes) zero fits = rw (add-zero place) (read (reader_answers
           front = λ b. y.front b ∙ ap (λ t. record_bytes r ++ t) rest;
           others = λ b. all_drop (l - 1) bytes b.1;
         }) (steps_from h (suc place) bytes (l - 1)) (rw there at (next (l - 1) (omega (arith, y.size, y.fits))))
-    read (Read.Refused k p) e next =
-        let here : p ≡ 0 = refused_at_first (x ∷ bytes) (Before.Header h) k p e in
+    read (Err k) e next =
+        let here : k.value ≡ 0 = refused_at_first (x ∷ bytes) (Some h) k e in
         record {
           steps = [];
           rest = x ∷ bytes;
@@ -208,7 +213,7 @@ says h place (x ∷ bytes) zero fits = rw (add-zero place) (read (reader_answers
           long = omega arith;
           split = λ b. refl;
           some = omega arith;
-          refused = e ∙ ap (Read.Refused k) here;
+          refused = e ∙ ap (λ p. Err (number.refused k.refusal p)) here;
           there = ap (λ i. place + i) here;
         }
 
@@ -231,9 +236,9 @@ pub record Whole (bytes : List ℕ) (h : Header) (steps : List Step) : Type 0 wh
   -- the steps stand after the header
   pub after : steps_from h (record_length (header_record h)) (drop (record_length (header_record h)) bytes) 0 ≡ Accepted h steps
 
-pub record Stopped (bytes : List ℕ) (k at : ℕ) : Type 0 where
-  pub number : k ≤ out_of_range
-  pub some : 1 ≤ k
+pub record Stopped (bytes : List ℕ) (k : Refusal) (at : ℕ) : Type 0 where
+  pub number : refusal_number k ≤ refusal_number Refusal.OutOfRange
+  pub some : 1 ≤ refusal_number k
   pub near : at ≤ longest
   pub first : AllBytes bytes → RefusalOf bytes k at
 
@@ -261,8 +266,8 @@ says_whole h bytes rest g fits z d (Refused k at) e y =
     let split : AllBytes bytes → bytes ≡ schedule_bytes h y.steps ++ y.rest = λ b.
     z.front b ∙ ap (λ l. record_bytes (header_record h) ++ l) (y.split (z.others b)) ∙ sym (append_assoc (record_bytes (header_record h)) (steps_bytes y.steps) y.rest) in
     record {
-      number = refused_number y.rest (Before.Header h) k 0 y.refused;
-      some = refused_some y.rest (Before.Header h) k 0 y.refused;
+      number = refused_number y.rest (Some h) (number.refused k 0) y.refused;
+      some = refused_some y.rest (Some h) (number.refused k 0) y.refused;
       near = omega (arith, y.there, y.long, z.long);
       first = λ b. rw place (at_step h y.steps y.rest fits g y.ranged (split b) y.some y.refused);
     }
@@ -270,9 +275,9 @@ says_whole h bytes rest g fits z d (Refused k at) e y =
 pub read_says : (bytes : List ℕ) → SaysWhole bytes (read_schedule bytes)
 read_says bytes = by_length (ltb longest (length bytes)) refl
   where
-    by_header : (x : Read) → length bytes ≤ longest → reader_answers bytes Before.Nothing ≡ x → SaysWhole bytes (steps_after bytes x)
-    by_header (Read.Record r l) fits e =
-        let y = read_yielded bytes Before.Nothing r l e in
+    by_header : (x : Read) → length bytes ≤ longest → reader_answers bytes None ≡ x → SaysWhole bytes (steps_after bytes x)
+    by_header (Ok (r, l)) fits e =
+        let y = read_yielded bytes None r l e in
         let h : Header = record_header r in
         let placed : is_header r.kind ≡ true = and_left (is_header r.kind) _ y.follows in
         let ranged : header_in_range h ≡ true = rw placed at (and_right (is_header r.kind) _ y.follows) in
@@ -284,34 +289,34 @@ read_says bytes = by_length (ltb longest (length bytes)) refl
           front = y.front;
           others = all_drop l bytes;
         }) (ap (λ i. drop i bytes) (sym y.size)) x (ap (λ i. steps_from h i rest 0) (sym y.size)) said
-    by_header (Read.Refused k p) fits e =
-        let here : p ≡ 0 = refused_at_first bytes Before.Nothing k p e in
+    by_header (Err k) fits e =
+        let here : k.value ≡ 0 = refused_at_first bytes None k e in
         record {
-          number = refused_number bytes Before.Nothing k p e;
-          some = refused_some bytes Before.Nothing k p e;
+          number = refused_number bytes None k e;
+          some = refused_some bytes None k e;
           near = omega arith;
-          first = λ b. rw here (at_header fits (e ∙ ap (Read.Refused k) here));
+          first = λ b. rw here (at_header fits (e ∙ ap (λ p. Err (number.refused k.refusal p)) here));
         }
 
-    by_length : (b : Bool) → ltb longest (length bytes) ≡ b → SaysWhole bytes (cond b (Refused empty_or_too_long 0) (steps_after bytes (reader_answers bytes Before.Nothing)))
+    by_length : (b : Bool) → ltb longest (length bytes) ≡ b → SaysWhole bytes (cond b (Refused Refusal.EmptyOrTooLong 0) (steps_after bytes (reader_answers bytes None)))
     by_length true e = record { number = lit≤ tt; some = lit≤ tt; near = omega arith; first = λ b. too_long (ltb-true longest (length bytes) e) }
-    by_length false e = by_header (reader_answers bytes Before.Nothing) (ltb-false longest (length bytes) e) refl
+    by_length false e = by_header (reader_answers bytes None) (ltb-false longest (length bytes) e) refl
 
 -- and the other way: a record that is refused after steps that are read
 
-pub refused_first : (h : Header) (place : ℕ) (rest : List ℕ) (k : ℕ) → 0 < length rest → reader_answers rest (Before.Header h) ≡ Read.Refused k 0
+pub refused_first : (h : Header) (place : ℕ) (rest : List ℕ) (k : Refusal) → 0 < length rest → reader_answers rest (Some h) ≡ refused k
     → steps_from h place rest 0 ≡ Refused k place
 unfolding steps_from
 refused_first h place [] k some e = absurd (omega arith)
 refused_first h place (x ∷ rest) k some e =
     ap (λ y. and_then place y (steps_from h (suc place) rest)) e ∙ ap (Refused k) (add-zero place)
 
-still_refused : (steps : List Step) (k place : ℕ) → with_steps steps (Refused k place) ≡ Refused k place
+still_refused : (steps : List Step) (k : Refusal) (place : ℕ) → with_steps steps (Refused k place) ≡ Refused k place
 still_refused [] k place = refl
 still_refused (s ∷ ss) k place = ap (with_step s) (still_refused ss k place)
 
-pub refused_after : (h : Header) → header_in_range h ≡ true → (steps : List Step) → AllInRange h.n steps → (place : ℕ) (rest : List ℕ) (k : ℕ) → 0 < length rest
-    → reader_answers rest (Before.Header h) ≡ Read.Refused k 0 → steps_from h place (steps_bytes steps ++ rest) 0 ≡ Refused k (place + length (steps_bytes steps))
+pub refused_after : (h : Header) → header_in_range h ≡ true → (steps : List Step) → AllInRange h.n steps → (place : ℕ) (rest : List ℕ) (k : Refusal) → 0 < length rest
+    → reader_answers rest (Some h) ≡ refused k → steps_from h place (steps_bytes steps ++ rest) 0 ≡ Refused k (place + length (steps_bytes steps))
 refused_after h g steps q place rest k some e =
     first_steps h g steps q place rest
     ∙ ap (with_steps steps) (refused_first h (place + length (steps_bytes steps)) rest k some e)

@@ -9,16 +9,16 @@ use lib.Dec.{eqb, leb}
 use lib.ListN.{length, get_or, drop, length-append, length-drop, take-append-drop}
 use lib.Seq.{drop-cons, drop_at, drop-drop, get_or-drop}
 use borrow.Author.Tests.{leb-false, eq-eqb, ne_eqb, lt-leb, not-true}
-use Rattle.number.specs.Refusal.{empty_or_too_long, unknown_kind, body_cut_short, header_misplaced, out_of_range}
+use Rattle.std.specs.Prelude.{Option, Some, None, Ok}
 use Rattle.number.specs.Low.{low_bytes, low_number}
 use Rattle.number.proofs.Laws.{and_left, and_right, and_true}
 use Rattle.number.proofs.LowBytes.{low_length, low_back, low_forth}
 use Rattle.kind.specs.Kind.{kind_number, kind_of, is_kind, first_width, second_width, body_length, is_header}
 use Rattle.kind.specs.Step.{is_step, of_kind, in_range, numbers_in_range}
 use Rattle.kind.proofs.Numbers.{kind_numbers, kind_encoded, kind_of_step, step_no_header, step_tested}
-use Rattle.schedule.specs.Types.{Kind, Step, Header, Record, Before, Read}
+use Rattle.schedule.specs.Types.{Kind, Step, Header, Record, Refusal}
 use Rattle.schedule.specs.Record.{record_step, step_record, header_in_range, record_in_range, record_length, record_bytes}
-use Rattle.schedule.specs.Reader.{refused, first_at, second_at, record_at, is_placed, in_range_after, kind_answer, reader_answers, step_at, length_at}
+use Rattle.schedule.specs.Reader.{Read, refused, first_at, second_at, record_at, is_placed, in_range_after, kind_answer, reader_answers, step_at, length_at}
 use Rattle.schedule.specs.RoundTrip.{may_follow, AllBytes}
 use Rattle.schedule.proofs.Laws.{header_size, record_fits}
 
@@ -54,13 +54,13 @@ found r rest fits =
     )
 
 -- they fit where the record is in range
-after_fits : (before : Before) (r : Record) → in_range_after before r ≡ true → (r.first < 256 ^ first_width r.kind) × (r.second < 256 ^ second_width r.kind)
-after_fits Before.Nothing r q = record_fits 0 r (omega arith) q
-after_fits (Before.Header h) r q = record_fits h.n r (header_size h (and_left (header_in_range h) _ q)).1 (and_right (header_in_range h) _ q)
+after_fits : (before : Option Header) (r : Record) → in_range_after before r ≡ true → (r.first < 256 ^ first_width r.kind) × (r.second < 256 ^ second_width r.kind)
+after_fits None r q = record_fits 0 r (omega arith) q
+after_fits (Some h) r q = record_fits h.n r (header_size h (and_left (header_in_range h) _ q)).1 (and_right (header_in_range h) _ q)
 
 -- the reader takes a record from its bytes, whatever follows them
-pub read_front : (before : Before) (r : Record) (rest : List ℕ) → may_follow before r ≡ true
-    → reader_answers (record_bytes r ++ rest) before ≡ Read.Record r (record_length r)
+pub read_front : (before : Option Header) (r : Record) (rest : List ℕ) → may_follow before r ≡ true
+    → reader_answers (record_bytes r ++ rest) before ≡ Ok (r, (record_length r))
 read_front before r rest q =
     let bytes : List ℕ = record_bytes r ++ rest in
     let k : Kind = r.kind in
@@ -115,7 +115,7 @@ begins bytes k b h e =
     )
 
 -- what it means that the reader yields a record
-pub record Yielded (bytes : List ℕ) (before : Before) (r : Record) (l : ℕ) : Type 0 where
+pub record Yielded (bytes : List ℕ) (before : Option Header) (r : Record) (l : ℕ) : Type 0 where
   pub follows : may_follow before r ≡ true
   pub size : l ≡ record_length r
   pub fits : l ≤ length bytes
@@ -123,24 +123,24 @@ pub record Yielded (bytes : List ℕ) (before : Before) (r : Record) (l : ℕ) :
 
 -- a test that leads to a record has not led to a refusal
 
-record_left : (b : Bool) (x : Read) (k : ℕ) (r : Record) (l : ℕ) → cond b x (refused k) ≡ Read.Record r l → (b ≡ true) × (x ≡ Read.Record r l)
+record_left : (b : Bool) (x : Read) (k : Refusal) (r : Record) (l : ℕ) → cond b x (refused k) ≡ Ok (r, l) → (b ≡ true) × (x ≡ Ok (r, l))
 record_left true x k r l e = (refl, e)
 record_left false x k r l e = (cc, cc)
 
-record_right : (b : Bool) (x : Read) (k : ℕ) (r : Record) (l : ℕ) → cond b (refused k) x ≡ Read.Record r l → (b ≡ false) × (x ≡ Read.Record r l)
+record_right : (b : Bool) (x : Read) (k : Refusal) (r : Record) (l : ℕ) → cond b (refused k) x ≡ Ok (r, l) → (b ≡ false) × (x ≡ Ok (r, l))
 record_right true x k r l e = (cc, cc)
 record_right false x k r l e = (refl, e)
 
 -- the record and length that are yielded
-same_record : (r r' : Record) (l l' : ℕ) → Read.Record r l ≡ Read.Record r' l' → (r ≡ r') × (l ≡ l')
-same_record r r' l l' e = (cc, cc)
+same_record : (r r' : Record) (l l' : ℕ) → ◌≡◌ {A = Read} (Ok (r, l)) (Ok (r', l')) → (r ≡ r') × (l ≡ l')
+same_record r r' l l' e = let p : ◌≡◌ {A = Record × ℕ} (r, l) (r', l') = cc in (ap (λ (x : Record × ℕ). x.0) p, ap (λ (x : Record × ℕ). x.1) p)
 
-module _ (bytes : List ℕ) (before : Before) where
-  body_yielded : (k : Kind) (r : Record) (l : ℕ) → get_or bytes 0 0 ≡ kind_number k → kind_answer bytes before k ≡ Read.Record r l → Yielded bytes before r l
+module _ (bytes : List ℕ) (before : Option Header) where
+  body_yielded : (k : Kind) (r : Record) (l : ℕ) → get_or bytes 0 0 ≡ kind_number k → kind_answer bytes before k ≡ Ok (r, l) → Yielded bytes before r l
   body_yielded k r l e q =
-      let long = record_right (leb (length bytes) (body_length k)) _ body_cut_short r l q in
-      let placed = record_left (is_placed before k) _ header_misplaced r l long.1 in
-      let ranged = record_left (in_range_after before (record_at bytes k)) _ out_of_range r l placed.1 in
+      let long = record_right (leb (length bytes) (body_length k)) _ Refusal.BodyCutShort r l q in
+      let placed = record_left (is_placed before k) _ Refusal.HeaderMisplaced r l long.1 in
+      let ranged = record_left (in_range_after before (record_at bytes k)) _ Refusal.OutOfRange r l placed.1 in
       let same = same_record (record_at bytes k) r (record_length (record_at bytes k)) l ranged.1 in
       let found : Yielded bytes before (record_at bytes k) (record_length (record_at bytes k)) =
       record {
@@ -151,11 +151,11 @@ module _ (bytes : List ℕ) (before : Before) where
       } in
       rw (same.0, same.1) at found
 
-  pub read_yielded : (r : Record) (l : ℕ) → reader_answers bytes before ≡ Read.Record r l → Yielded bytes before r l
+  pub read_yielded : (r : Record) (l : ℕ) → reader_answers bytes before ≡ Ok (r, l) → Yielded bytes before r l
   read_yielded r l q =
       let x : ℕ = get_or bytes 0 0 in
-      let some = record_right (eqb (length bytes) 0) _ empty_or_too_long r l q in
-      let known = record_left (is_kind x) _ unknown_kind r l some.1 in
+      let some = record_right (eqb (length bytes) 0) _ Refusal.EmptyOrTooLong r l q in
+      let known = record_left (is_kind x) _ Refusal.UnknownKind r l some.1 in
       body_yielded (kind_of x) r l (sym (kind_numbers.encoded x known.0)) known.1
 
 -- what is yielded, without a test
@@ -176,24 +176,24 @@ step_in bytes Kind.Crash = rw (one_byte bytes 1) refl
 step_in bytes Kind.Restart = rw (one_byte bytes 1) refl
 step_in bytes Kind.WideHeader = refl
 
-pub read_untested : (bytes : List ℕ) (before : Before) (r : Record) (l : ℕ) → reader_answers bytes before ≡ Read.Record r l
+pub read_untested : (bytes : List ℕ) (before : Option Header) (r : Record) (l : ℕ) → reader_answers bytes before ≡ Ok (r, l)
     → (record_step r ≡ step_at bytes) × (l ≡ length_at bytes)
 read_untested bytes before r l q =
     let k : Kind = kind_of (get_or bytes 0 0) in
-    let some = record_right (eqb (length bytes) 0) _ empty_or_too_long r l q in
-    let known = record_left (is_kind (get_or bytes 0 0)) _ unknown_kind r l some.1 in
-    let long = record_right (leb (length bytes) (body_length k)) _ body_cut_short r l known.1 in
-    let placed = record_left (is_placed before k) _ header_misplaced r l long.1 in
-    let ranged = record_left (in_range_after before (record_at bytes k)) _ out_of_range r l placed.1 in
+    let some = record_right (eqb (length bytes) 0) _ Refusal.EmptyOrTooLong r l q in
+    let known = record_left (is_kind (get_or bytes 0 0)) _ Refusal.UnknownKind r l some.1 in
+    let long = record_right (leb (length bytes) (body_length k)) _ Refusal.BodyCutShort r l known.1 in
+    let placed = record_left (is_placed before k) _ Refusal.HeaderMisplaced r l long.1 in
+    let ranged = record_left (in_range_after before (record_at bytes k)) _ Refusal.OutOfRange r l placed.1 in
     let same = same_record (record_at bytes k) r (record_length (record_at bytes k)) l ranged.1 in
     (ap record_step (sym same.0) ∙ step_in bytes k, sym same.1)
 
 -- Steps as records, and back
 
-pub step_follows : (h : Header) (s : Step) → header_in_range h ≡ true → in_range h.n s ≡ true → may_follow (Before.Header h) (step_record s) ≡ true
+pub step_follows : (h : Header) (s : Step) → header_in_range h ≡ true → in_range h.n s ≡ true → may_follow (Some h) (step_record s) ≡ true
 step_follows h s g q = simp (step_no_header s, g, step_tested h.n s q)
 
-pub record_step_lem : (h : Header) (r : Record) → may_follow (Before.Header h) r ≡ true → (step_record (record_step r) ≡ r) × (in_range h.n (record_step r) ≡ true)
+pub record_step_lem : (h : Header) (r : Record) → may_follow (Some h) r ≡ true → (step_record (record_step r) ≡ r) × (in_range h.n (record_step r) ≡ true)
 record_step_lem h r q =
     let k : Kind = r.kind in
     let no : is_header k ≡ false = not-true (is_header k) (and_left (not (is_header k)) _ q) in

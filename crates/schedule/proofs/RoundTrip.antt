@@ -9,7 +9,7 @@ use borrow.Author.Tests.{lt-ltb, le-ltb}
 use Rattle.number.specs.Low.{low_bytes}
 use Rattle.kind.specs.Kind.{first_width, second_width}
 use Rattle.kind.proofs.Numbers.{kind_most}
-use Rattle.schedule.specs.Types.{Step, Header, Record}
+use Rattle.schedule.specs.Types.{Step, Header, Record, Refusal}
 use Rattle.schedule.specs.Record.{header_record, step_record, record_length, record_bytes, longest}
 use Rattle.schedule.specs.Schedule.{Accepted, Refused, read_schedule, steps_bytes}
 use Rattle.schedule.specs.RoundTrip.{BytesKept, StepsKept, ReadInRange, AllBytes, BytesFit, RefusalOf, too_long, at_header, at_step, FirstRefusal}
@@ -33,7 +33,7 @@ few_bytes bytes h steps e =
 
 -- Refusals
 
-is_refused : (bytes : List ℕ) (k place : ℕ) → RefusalOf bytes k place → read_schedule bytes ≡ Refused k place
+is_refused : (bytes : List ℕ) (k : Refusal) (place : ℕ) → RefusalOf bytes k place → read_schedule bytes ≡ Refused k place
 is_refused bytes k place (too_long h) = simp (lt-ltb longest (length bytes) h)
 is_refused bytes k place (at_header fits e) = simp (le-ltb longest (length bytes) fits, e)
 is_refused bytes k place (at_step h steps rest fits g q split some e) =

@@ -1,14 +1,13 @@
 -- A whole schedule: bytes to its header and steps, or to the first refusal from the left; and back to bytes. Assumes nothing.
-use Rattle.std.specs.Prelude.{cond, List, [], ◌∷◌, ◌++◌, ℕ, zero, suc, ◌+◌, ◌-◌, ltb, length, drop}
-use Rattle.number.specs.Refusal.{empty_or_too_long}
-use Rattle.schedule.specs.Types.{Step, Header, Before, Read}
+use Rattle.std.specs.Prelude.{cond, List, [], ◌∷◌, ◌++◌, ℕ, zero, suc, ◌+◌, ◌-◌, ltb, length, drop, Some, None, Ok, Err}
+use Rattle.schedule.specs.Types.{Step, Header, Refusal}
 use Rattle.schedule.specs.Record.{header_record, record_header, step_record, record_step, record_bytes, longest}
-use Rattle.schedule.specs.Reader.{reader_answers}
+use Rattle.schedule.specs.Reader.{Read, reader_answers}
 
--- a header and steps, or a refusal's number and place
+-- a header and steps, or a refusal and its place
 pub data Reading : Type 0 where
   Accepted : Header → List Step → Reading
-  Refused : ℕ → ℕ → Reading
+  Refused : Refusal → ℕ → Reading
 
 abbrev pub with_step : Step → Reading → Reading
 with_step s (Accepted h steps) = Accepted h (s ∷ steps)
@@ -16,21 +15,21 @@ with_step s (Refused k p) = Refused k p
 
 -- the step at a place and those after it, told how many bytes to pass over
 abbrev pub and_then : ℕ → Read → (ℕ → Reading) → Reading
-and_then place (Read.Record r l) next = with_step (record_step r) (next (l - 1))
-and_then place (Read.Refused k p) next = Refused k (place + p)
+and_then place (Ok (r, l)) next = with_step (record_step r) (next (l - 1))
+and_then place (Err k) next = Refused k.refusal (place + k.value)
 
 -- the steps from a place on, of which the first `skip` bytes belong to the record before
 unfoldable pub steps_from : Header → ℕ → List ℕ → ℕ → Reading
 steps_from h place [] skip = Accepted h []
-steps_from h place (x ∷ bytes) zero = and_then place (reader_answers (x ∷ bytes) (Before.Header h)) (steps_from h (suc place) bytes)
+steps_from h place (x ∷ bytes) zero = and_then place (reader_answers (x ∷ bytes) (Some h)) (steps_from h (suc place) bytes)
 steps_from h place (x ∷ bytes) (suc skip) = steps_from h (suc place) bytes skip
 
 abbrev pub steps_after : List ℕ → Read → Reading
-steps_after bytes (Read.Record r l) = steps_from (record_header r) l (drop l bytes) 0
-steps_after bytes (Read.Refused k p) = Refused k p
+steps_after bytes (Ok (r, l)) = steps_from (record_header r) l (drop l bytes) 0
+steps_after bytes (Err k) = Refused k.refusal k.value
 
 abbrev pub read_schedule : List ℕ → Reading
-read_schedule bytes = cond (ltb longest (length bytes)) (Refused empty_or_too_long 0) (steps_after bytes (reader_answers bytes Before.Nothing))
+read_schedule bytes = cond (ltb longest (length bytes)) (Refused Refusal.EmptyOrTooLong 0) (steps_after bytes (reader_answers bytes None))
 
 -- a header and steps to bytes
 

@@ -13,7 +13,7 @@ use kind::{Kind, between};
 pub const LONGEST: usize = 32768;
 
 // The header of a schedule: its kind, n and the vote mask.
-#[derive(Clone, Copy)]
+#[derive(Clone, Copy, Debug, PartialEq, Eq)]
 pub struct Header {
     pub kind: Kind,
     pub n: u32,
@@ -21,14 +21,14 @@ pub struct Header {
 }
 
 // A header that records are read under, with the mask of all its participants: that is worked out once, and handed on to each record and step.
-#[derive(Clone, Copy)]
+#[derive(Clone, Copy, Debug, PartialEq, Eq)]
 pub struct Context {
     pub header: Header,
     pub all: u32,
 }
 
 // A record: its kind and the two numbers of its body, 0 where the body has none.
-#[derive(Clone, Copy)]
+#[derive(Clone, Copy, Debug, PartialEq, Eq)]
 pub struct Record {
     pub kind: Kind,
     pub first: u32,
@@ -39,13 +39,11 @@ pub struct Record {
 fn all_of(h: Header) -> u32
     ensures { result ≡ all_of h }
 {
-    let kind = h.kind;
-    if between(1, h.n, kind.room()) {
-        let all = mask::full(h.n);
-        if mask::within(h.votes, all) { all } else { 0 }
-    } else {
-        0
+    if !between(1, h.n, h.kind.room()) {
+        return 0;
     }
+    let all = mask::full(h.n);
+    if mask::within(h.votes, all) { all } else { 0 }
 }
 
 impl Header {
@@ -58,16 +56,17 @@ impl Header {
             all: all_of(self),
         }
     }
+}
 
-    // Its kind and numbers as those of a record.
-    fn as_record(self) -> Record
-        ensures { result ≡ header_record self }
-    {
-        let kind = self.kind;
+// A header's kind and numbers are those of its record.
+impl From<Header> for Record {
+    ghost from_gives = { λ h r. r ≡ header_record h };
+
+    fn from(h: Header) -> Record {
         Record {
-            kind: kind,
-            first: self.n,
-            second: self.votes,
+            kind: h.kind,
+            first: h.n,
+            second: h.votes,
         }
     }
 }
@@ -86,17 +85,15 @@ impl Record {
     pub fn length(self) -> usize
         ensures { result ≡ record_length self }
     {
-        let kind = self.kind;
-        1 + Kind::body(kind)
+        1 + Kind::body(self.kind)
     }
 
     // Its kind and numbers as those of a header.
     pub fn header(self) -> Header
         ensures { result ≡ record_header self }
     {
-        let kind = self.kind;
         Header {
-            kind: kind,
+            kind: self.kind,
             n: self.first,
             votes: self.second,
         }
@@ -106,11 +103,10 @@ impl Record {
     pub fn in_range(self, n: u32) -> bool
         ensures { result ≡ record_in_range n self }
     {
-        let kind = self.kind;
-        if kind.is_header() {
+        if self.kind.is_header() {
             self.header().context().in_range()
         } else {
-            kind.numbers_in_range(n, self.first, self.second)
+            self.kind.numbers_in_range(n, self.first, self.second)
         }
     }
 }

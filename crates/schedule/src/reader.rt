@@ -1,73 +1,14 @@
 // The reader: the record that some bytes begin with. It is told the header that came before, or none.
-ghost use Rattle.std.specs.Prelude.{◌≡◌, leb, ◌+◌, ◌≤◌, ◌<◌, length, get_or, drop};
+ghost use Rattle.std.specs.Prelude.{◌≡◌, leb, ◌+◌, ◌≤◌, ◌<◌, length, get_or, drop, None};
 ghost use Rattle.number.specs.Low.{low_number};
 ghost use Rattle.kind.specs.Kind.{body_length};
 ghost use Rattle.schedule.specs.Reader.{record_at, ranged, reader_answers, read_hands, reader_hands, step_at, length_at};
 ghost use Rattle.schedule.specs.Found.{kind_at};
-ghost use Rattle.schedule.specs.Context.{first_of, first_read, ranged_header, in_range_with, read_with};
-ghost use Rattle.schedule.specs.declared.reader.Before.{Before};
+ghost use Rattle.schedule.specs.Context.{first_of, ranged_header, in_range_with, read_with};
 
 use super::{Context, Header, Record};
 use kind::{Kind, Step};
-use number::{
-    BODY_CUT_SHORT, EMPTY_OR_TOO_LONG, HEADER_MISPLACED, OUT_OF_RANGE, UNKNOWN_KIND, low,
-};
-
-// The header that came before a record, or none.
-#[derive(Clone, Copy)]
-pub enum Before {
-    Nothing,
-    Header(Header),
-}
-
-// A record with its length, or a refusal's number with the place of the record's first byte.
-#[derive(Clone, Copy)]
-pub enum Read {
-    Record(Record, usize),
-    Refused(u32, usize),
-}
-
-impl Read {
-    // The refusal's number, or 0.
-    pub fn number(self) -> u32
-        ensures { result ≡ (read_hands self).number }
-    {
-        match self {
-            Read::Record(_, _) => 0,
-            Read::Refused(k, _) => k,
-        }
-    }
-}
-
-// What a schedule begins with: its header, with the mask of all participants; or a refusal's number.
-#[derive(Clone, Copy)]
-pub enum First {
-    Header(Context),
-    Refused(u32),
-}
-
-impl First {
-    // As the answer to its first record.
-    fn read(self) -> Read
-        ensures { result ≡ first_read self }
-    {
-        match self {
-            First::Header(c) => {
-                let header = c.header;
-                let r = header.as_record();
-                Read::Record(r, r.length())
-            }
-            First::Refused(k) => Read::Refused(k, 0),
-        }
-    }
-}
-
-// The kind of a record, where all of its body is there; or a refusal's number.
-#[derive(Clone, Copy)]
-enum Found {
-    Known(Kind),
-    Refused(u32),
-}
+use number::{Refusal, Refused, low};
 
 // Whether the bytes end before the body of the kind does. Where more bytes are there than any body has, no jump depends on the kind.
 fn cut_short(bytes: &[u8], kind: Kind) -> bool
@@ -80,23 +21,18 @@ fn cut_short(bytes: &[u8], kind: Kind) -> bool
     }
 }
 
-// The kind of the record that the bytes begin with: 1, 2, 3.
-fn kind_at(bytes: &[u8]) -> Found
+// The kind of the record that the bytes begin with, where all of its body is there: 1, 2, 3.
+fn kind_at(bytes: &[u8]) -> Result<Kind, Refusal>
     ensures { result ≡ kind_at bytes.now }
 {
-    if bytes.len() == 0 {
-        return Found::Refused(EMPTY_OR_TOO_LONG);
-    }
-    let number = bytes[0] as u32;
-    let kind = Kind::of(number);
-    if kind.number() == number {
-        if cut_short(bytes, kind) {
-            Found::Refused(BODY_CUT_SHORT)
-        } else {
-            Found::Known(kind)
-        }
+    let Some(&first) = bytes.first() else {
+        return Err(Refusal::EmptyOrTooLong);
+    };
+    let kind = Kind::try_from(first as u32)?;
+    if cut_short(bytes, kind) {
+        Err(Refusal::BodyCutShort)
     } else {
-        Found::Refused(UNKNOWN_KIND)
+        Ok(kind)
     }
 }
 
@@ -120,47 +56,43 @@ fn record_at(bytes: &[u8], kind: Kind) -> Record
 {
     let width = kind.first_width();
     Record {
-        kind: kind,
+        kind,
         first: number_at(bytes, 1, width),
         second: number_at(bytes, 1 + width, kind.second_width()),
     }
 }
 
 // A record in its place: 5.
-fn ranged(r: Record, good: bool) -> Read
+fn ranged(r: Record, good: bool) -> Result<(Record, usize), Refused>
     ensures { result ≡ ranged r good }
 {
     if good {
-        Read::Record(r, r.length())
+        Ok((r, r.length()))
     } else {
-        Read::Refused(OUT_OF_RANGE, 0)
+        Err(Refusal::OutOfRange.into())
     }
 }
 
 // A header in its place: 5.
-fn ranged_header(c: Context) -> First
+fn ranged_header(c: Context) -> Result<Context, Refusal>
     ensures { result ≡ ranged_header c }
 {
     if c.in_range() {
-        First::Header(c)
+        Ok(c)
     } else {
-        First::Refused(OUT_OF_RANGE)
+        Err(Refusal::OutOfRange)
     }
 }
 
 // The first record: a header, of either kind, comes first. Its mask is worked out here, for all records and steps under it.
-pub fn read_header(bytes: &[u8]) -> First
-    ensures { result ≡ first_of (reader_answers bytes.now Before.Nothing) }
+pub fn read_header(bytes: &[u8]) -> Result<Context, Refusal>
+    ensures { result ≡ first_of (reader_answers bytes.now None) }
 {
-    match kind_at(bytes) {
-        Found::Refused(k) => First::Refused(k),
-        Found::Known(kind) => {
-            if kind.is_header() {
-                ranged_header(record_at(bytes, kind).header().context())
-            } else {
-                First::Refused(HEADER_MISPLACED)
-            }
-        }
+    let kind = kind_at(bytes)?;
+    if kind.is_header() {
+        ranged_header(record_at(bytes, kind).header().context())
+    } else {
+        Err(Refusal::HeaderMisplaced)
     }
 }
 
@@ -169,38 +101,32 @@ pub fn read_header(bytes: &[u8]) -> First
 fn in_range_with(c: Context, r: Record) -> bool
     ensures { result ≡ in_range_with c r }
 {
-    if c.in_range() {} else {
-        return false;
-    }
-    let header = c.header;
-    let kind = r.kind;
-    kind.numbers_in_range(header.n, r.first, r.second)
+    c.in_range() && r.kind.numbers_in_range(c.header.n, r.first, r.second)
 }
 
 // A record after the header, with the mask that was handed on: no further header follows.
-pub fn read_step(bytes: &[u8], c: Context) -> Read
+pub fn read_step(bytes: &[u8], c: Context) -> Result<(Record, usize), Refused>
     ensures { result ≡ read_with bytes.now c }
 {
-    match kind_at(bytes) {
-        Found::Refused(k) => Read::Refused(k, 0),
-        Found::Known(kind) => {
-            if kind.is_header() {
-                Read::Refused(HEADER_MISPLACED, 0)
-            } else {
-                let r = record_at(bytes, kind);
-                ranged(r, in_range_with(c, r))
-            }
-        }
+    let kind = kind_at(bytes)?;
+    if kind.is_header() {
+        return Err(Refusal::HeaderMisplaced.into());
     }
+    let r = record_at(bytes, kind);
+    ranged(r, in_range_with(c, r))
 }
 
 // The record at the beginning of the bytes. The bytes after it are the rest of the same schedule.
-pub fn read_record(bytes: &[u8], before: Before) -> Read
+pub fn read_record(bytes: &[u8], before: Option<Header>) -> Result<(Record, usize), Refused>
     ensures { (result ≡ reader_answers bytes.now before) × (read_hands result ≡ reader_hands bytes.now before) }
 {
     match before {
-        Before::Nothing => read_header(bytes).read(),
-        Before::Header(h) => read_step(bytes, h.context()),
+        None => {
+            let context = read_header(bytes)?;
+            let r = Record::from(context.header);
+            Ok((r, r.length()))
+        }
+        Some(h) => read_step(bytes, h.context()),
     }
 }
 
@@ -208,7 +134,7 @@ pub fn read_record(bytes: &[u8], before: Before) -> Read
 pub fn byte_at(bytes: &[u8], i: usize) -> u32
     ensures { result ≡ get_or bytes.now i 0 }
 {
-    if i < bytes.len() { bytes[i] as u32 } else { 0 }
+    bytes.get(i).map_or(0, |&b| b as u32)
 }
 
 // The step that accepted bytes begin with, and the length of its record. Nothing is tested again.

@@ -74,3 +74,6 @@ module _ (n : ℕ) {out₀ out : List ℕ} {at c : ℕ} (g : Putting (choice_byt
 
 pub all_choices : (n : ℕ) {out₀ out : List ℕ} {at c : ℕ} → Putting (choice_bytes n) choices out₀ 0 out at c → 162 ≤ c → Put out₀ 0 (each (choice_bytes n) choices) at out
 all_choices n {out₀} {out} {at} {c} g end = put_all (choice_bytes n) choices out₀ 0 out at c g (omega (arith, length_tabulate 162 (λ (c : ℕ). c)))
+
+-- what the loop's goals ask for but the next turn
+pub ruleset putting_choices = (steps_most, choice_fits, all_choices)

@@ -9,11 +9,12 @@ use native.Mathlib.Decide.{dec_lt}
 use native.Mathlib.Numerals.{add-one, sub-one}
 use lib.ListN.{length, get_or, take, drop, length-drop, drop_of_length-le, get_or-eq_default}
 use lib.Seq.{drop-cons, drop_at, take_at, drop-drop}
+use Rattle.std.specs.Prelude.{Some}
 use Rattle.number.proofs.Table.{get_d_tabulate}
 use Rattle.mask.specs.Mask.{full}
 use Rattle.store.specs.Log.{places}
 use Rattle.text.specs.Put.{Put, each}
-use Rattle.text.proofs.Putting.{Putting, put_same, put_none, put_room, put_next, put_all}
+use Rattle.text.proofs.Putting.{Putting, put_none, put_room, put_next, put_all}
 use Rattle.kind.specs.Step.{in_range}
 use Rattle.kind.proofs.Numbers.{more_steps, kind_decoded}
 use Rattle.schedule.specs.Record.{header_in_range, step_record, record_length, record_bytes}
@@ -38,15 +39,16 @@ use Rattle.exercises.specs.Sheet.{candidates, if_due, due_lists}
 use Rattle.exercises.proofs.Lists.{all_at, gather_gather, map_same}
 use Rattle.exercises.proofs.Candidates.{Ranged, candidates_ranged}
 use Rattle.exercises.proofs.Holds.{step_short}
-use Rattle.sheet.specs.Types.{Step, Header, Context, Before, Store, Release, Outcome, Report, Prefix}
+use Rattle.sheet.specs.Types.{Step, Header, Context, Store, Release, Outcome, Report, Prefix}
 use Rattle.sheet.specs.Level.{text_of, Extends, going_on, level_bytes, Reached}
 
 -- What a level goes on to
 
 -- no step is left: the schedule is whole
-pub none_left : (steps : List Step) (r : Release) (bytes : List ℕ) → going_on steps 0 r bytes ≡ bytes
+pub none_left : (steps : List Step) (k : ℕ) (r : Release) (bytes : List ℕ) → k ≡ 0 → going_on steps k r bytes ≡ bytes
 unfolding going_on due_lists flatten
-none_left steps r bytes = append-nil (bytes ++ []) ∙ append-nil bytes
+none_left steps zero r bytes e = append-nil (bytes ++ []) ∙ append-nil bytes
+none_left steps (suc k) r bytes e = absurd (omega arith)
 
 -- what a step goes on to, if it is due
 abbrev pub branch : List Step → ℕ → Release → List ℕ → Step → List ℕ
@@ -84,7 +86,7 @@ some_left steps (suc k) r bytes ne = one_more_lem steps k r bytes ∙ ap (λ j. 
 first_is : (h : Header) → header_in_range h ≡ true → (s : Step) → in_range h.n s ≡ true → (rest : List ℕ)
     → (step_at (record_bytes (step_record s) ++ rest) ≡ s) × (length_at (record_bytes (step_record s) ++ rest) ≡ record_length (step_record s))
 first_is h g s q rest =
-    let x = read_untested (record_bytes (step_record s) ++ rest) (Before.Header h) (step_record s) (record_length (step_record s)) (read_front (Before.Header h) (step_record s) rest (step_follows h s g q)) in
+    let x = read_untested (record_bytes (step_record s) ++ rest) (Some h) (step_record s) (record_length (step_record s)) (read_front (Some h) (step_record s) rest (step_follows h s g q)) in
     (sym x.0 ∙ kind_decoded s, sym x.1)
 
 -- What holds while the steps are tried: `p` is the place of the next one's record, and `index` its own. The numbers are those that the level started from
@@ -185,9 +187,6 @@ module _ {e : Prefix} {l : List ℕ} {store : Store} {steps : List ℕ} {c : Con
     pub fits : p + record_length (step_record tried) ≤ length steps
     fits = omega (arith, length-drop p steps, ap length first, front_length (step_record tried) (steps_bytes later), more)
 
-    pub some_size : 1 ≤ record_length (step_record tried)
-    some_size = omega arith
-
     pub short : record_length (step_record tried) ≤ 3
     short = omega (arith, step_short tried, record_length_lem (step_record tried))
 
@@ -264,15 +263,3 @@ module _ {e : Prefix} {l : List ℕ} {store : Store} {steps : List ℕ} {c : Con
 
         pub went : {out' : List ℕ} {place' : ℕ} → Put out place (level_bytes f k left-store c (left - 1)) place' out' → Trying e l store steps c left out₀ at out' l place' (p + record_length (step_record tried))
         went put = next_one (level_bytes f k left-store c (left - 1)) goes_on put l refl
-
--- Where no step is left, the schedule itself is put
-
-module _ (e : Prefix) (l : List ℕ) (store : Store) (c : Context) (left : ℕ) (none : left ≡ 0) where
-  leaf : level_bytes e l store c left ≡ text_of e
-  leaf = ap (λ k. going_on (candidates c.header.n) k (release_in l store) (text_of e)) none ∙ none_left (candidates c.header.n) (release_in l store) (text_of e)
-
-  pub leaf_room : (at room : ℕ) → at + length (level_bytes e l store c left) ≤ room → at + length (text_of e) ≤ room
-  leaf_room at room enough = omega (arith, ap length leaf, enough)
-
-  pub leaf_put : {out out' : List ℕ} {at end : ℕ} → Put out at (text_of e) end out' → Put out at (level_bytes e l store c left) end out'
-  leaf_put put = put_same (sym leaf) put

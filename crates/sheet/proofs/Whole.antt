@@ -1,13 +1,13 @@
 -- The whole sheet: what the first level starts from, and what it goes on to. Assumes nothing.
 use mathlib.Core.Path.{◌≡◌, refl, sym, ap, ap₂, subst, ◌∙◌}
-use mathlib.Core.Bool.{Bool, true, false, ◌&&◌}
+use mathlib.Core.Bool.{Bool, true, ◌&&◌}
 use mathlib.Core.List.{List}
 use Prim.Native.Nat.{ℕ, suc, ◌≤◌, ◌<◌}
 use native.Mathlib.Omega.{arith}
 use lib.Dec.{leb}
-use lib.Seq.{length-sets}
-use lib.ListN.{length, get_or}
-use Rattle.number.specs.Refusal.{out_of_range}
+use lib.Seq.{length-sets, length-take-le}
+use lib.ListN.{length, get_or, take}
+use Rattle.std.specs.Prelude.{Result}
 use Rattle.number.proofs.Table.{get_d_tabulate}
 use Rattle.store.specs.Log.{places}
 use Rattle.text.specs.Put.{Put, each}
@@ -25,9 +25,9 @@ use Rattle.exercises.specs.Sheet.{candidates, sheet_bytes, header_for, in_bounds
 use Rattle.exercises.specs.Promises.{longest_sheet}
 use Rattle.exercises.proofs.Holds.{Bounds, bounds}
 use Rattle.exercises.proofs.Fits.{sheet_fits}
-use Rattle.sheet.specs.Types.{Kind, Header, Context, Store, Written, Release, Prefix}
+use Rattle.sheet.specs.Types.{Kind, Header, Context, Store, Release, Prefix, Refused}
 use Rattle.sheet.specs.Level.{choices, choice_bytes, going_on, level_bytes, Begins, Reached, in_bounds_with, InBounds}
-use Rattle.sheet.proofs.Bytes.{all_steps}
+use Rattle.sheet.proofs.Bytes.{all_steps, steps_most}
 
 module _ {c : Context} {k : ℕ} (b : InBounds c k) where
   abbrev h : Header
@@ -81,26 +81,34 @@ module _ {c : Context} {k : ℕ} (b : InBounds c k) where
 pub front_ends : {before after bytes : List ℕ} {end : ℕ} → Put before 0 bytes end after → length bytes ≤ length before → end ≤ length after
 front_ends {before} {after} {bytes} {end} p fits = omega (arith, p.ends, ap length p.leaves, length-sets before 0 bytes, fits)
 
--- The entry
+pub front_long : {before after bytes : List ℕ} {end : ℕ} → Put before 0 bytes end after → length bytes ≤ length before → length (take end after) ≡ end
+front_long {after} {end} p fits = length-take-le end after (front_ends p fits)
 
-module _ {n votes : ℕ} {c : Context} (is : c ≡ context_of (header_for n votes)) (k : ℕ) where
-  pub asked : in_bounds_with c k ≡ in_bounds n votes k
+-- what the goals of the first level ask for
+pub ruleset first_level = (front_ends, front_long, steps_most, sites, whole)
+
+-- The entry: its test is passed
+
+module _ {n votes : ℕ} {c : Context} (is : c ≡ context_of (header_for n votes)) (k : ℕ) (passed : in_bounds_with c k ≡ true) where
+  asked : in_bounds n votes k ≡ true
   asked =
-      ap (λ (x : Context). in_bounds_with x k) is ∙ ap (λ (b : Bool). b && (leb n most_sites && leb k most_steps)) (context_ranged (header_for n votes))
+      sym (ap (λ (b : Bool). b && (leb n most_sites && leb k most_steps)) (context_ranged (header_for n votes)))
+      ∙ sym (ap (λ (x : Context). in_bounds_with x k) is)
+      ∙ passed
 
-  pub there_is : in_bounds n votes k ≡ true → InBounds c k × (length (sheet_bytes c.header k) ≤ longest_sheet)
-  there_is q =
-      subst (λ (x : Context). InBounds x k × (length (sheet_bytes x.header k) ≤ longest_sheet)) (sym is)
-      (record { kind = refl; context = refl; within = q }, sheet_fits.fits n votes k q)
+  pub there_is : InBounds c k
+  there_is = subst (λ (x : Context). InBounds x k) (sym is) (record { kind = refl; context = refl; within = asked })
 
-  -- the sheet, or none: what is answered and what is left
-  pub written : in_bounds n votes k ≡ true → (buffer : List ℕ) {left sheet : List ℕ} {x : Written} → sheet ≡ sheet_bytes c.header k
+  pub sheet_short : length (sheet_bytes c.header k) ≤ longest_sheet
+  sheet_short = subst (λ (x : Context). length (sheet_bytes x.header k) ≤ longest_sheet) (sym is) (sheet_fits.fits n votes k asked)
+
+  -- the sheet, with what is answered and what is left
+  pub written : (buffer : List ℕ) {left sheet : List ℕ} {x : Result ℕ Refused} → sheet ≡ sheet_bytes c.header k
       → (x ≡ text_answer (length buffer) sheet) × (left ≡ text_left buffer sheet)
       → (x ≡ sheet_answers (length buffer) n votes k) × (left ≡ sheet_leaves buffer n votes k)
-  written q buffer {left} {sheet} {x} same w =
+  written buffer {left} {sheet} {x} same w =
       let bytes : sheet ≡ sheet_bytes (header_for n votes) k = same ∙ ap (λ (y : Context). sheet_bytes y.header k) is in
-      rw q (w.0 ∙ ap (text_answer (length buffer)) bytes, w.1 ∙ ap (text_left buffer) bytes)
+      rw asked (w.0 ∙ ap (text_answer (length buffer)) bytes, w.1 ∙ ap (text_left buffer) bytes)
 
-  pub refused : in_bounds n votes k ≡ false → (buffer : List ℕ)
-      → (Written.Refused out_of_range 0 ≡ sheet_answers (length buffer) n votes k) × (buffer ≡ sheet_leaves buffer n votes k)
-  refused q buffer = rw q (refl, refl)
+-- what the goals of the entry ask for
+pub ruleset entry = (front_ends, front_long, there_is, sheet_short)

@@ -1,13 +1,12 @@
 -- The declared type of the first bytes of a schedule, and those of the layers below that a sheet speaks of.
+pub use Rattle.number.specs.declared.Refusal.{Refusal}
+pub use Rattle.number.specs.declared.Refused.{Refused}
 pub use Rattle.kind.specs.declared.Kind.{Kind}
 pub use Rattle.kind.specs.declared.Step.{Step}
 pub use Rattle.schedule.specs.declared.Header.{Header}
 pub use Rattle.schedule.specs.declared.Context.{Context}
 pub use Rattle.schedule.specs.declared.Record.{Record}
-pub use Rattle.schedule.specs.declared.reader.Before.{Before}
-pub use Rattle.schedule.specs.declared.reader.Read.{Read}
 pub use Rattle.store.specs.declared.Store.{Store}
-pub use Rattle.writer.specs.declared.Written.{Written}
 pub use Rattle.rules.specs.declared.Release.{Release}
 pub use Rattle.rules.specs.declared.Outcome.{Outcome}
 pub use Rattle.rules.specs.declared.Report.{Report}

@@ -10,14 +10,14 @@ ghost use Rattle.sheet.specs.Level.{record_for, choices, choice_bytes, longest_s
 use effect::outcome::moves;
 use exercises::{LONGEST_SHEET, MOST_SITES, MOST_STEPS};
 use kind::Kind;
-use number::OUT_OF_RANGE;
+use number::{Refusal, Refused};
 use release::step;
 use schedule::reader::{length_at, step_at};
 use schedule::{Context, Header, Record};
 use state::{FIELDS, fresh};
 use store::Store;
 use text::put;
-use writer::{Written, write_text};
+use writer::write_text;
 
 // The longest schedule of a sheet: its header and three steps, of three bytes each.
 const LONGEST_EXERCISE: usize = 12;
@@ -40,24 +40,23 @@ fn choice(c: u32) -> Record
 }
 
 // Puts the records of all steps that the reader yields under n, in ascending order of their bytes.
+#[tactic(auto, using(crate::proofs::Bytes::putting_choices))]
 fn put_steps(out: &mut [u8], n: u32) -> usize
     requires { (n ≤ most_sites) × (longest_steps ≤ length out.old) }
     ensures { Put out.old 0 (each (choice_bytes n) choices) result out.new }
 {
-    let mut at: usize = 0;
-    let mut c: u32 = 0;
-    while c < CHOICES {
+    let mut at = 0;
+    for c in 0..CHOICES {
         let r = choice(c);
         if r.in_range(n) {
             writer::put(out, at, r);
-            at = at + r.length();
+            at += r.length();
         }
-        c = c + 1;
     }
     at
 }
 
-// The first bytes of a schedule.
+// The first bytes of a schedule. Fixed memory, with no heap: each level of `list` copies it, and what `Extends` and `Begins` say is of both fields.
 #[derive(Clone, Copy)]
 pub struct Prefix {
     pub bytes: [u8; LONGEST_EXERCISE],
@@ -72,15 +71,13 @@ impl Prefix {
     {
         let mut bytes = self.bytes;
         let len = put(&mut bytes, self.len, added);
-        Prefix {
-            bytes: bytes,
-            len: len,
-        }
+        Prefix { bytes, len }
     }
 }
 
-// Puts each schedule that begins with these bytes and goes on with `left` due steps, from the release that the numbers and the store represent: after each
-// step that is due, those with one step fewer. A step that is not due leaves the numbers as they were.
+// Puts each schedule that begins with these bytes and goes on with `left` due steps, from the release that the numbers and the store represent: after
+// each step that is due, those with one step fewer. A step that is not due leaves the numbers as they were.
+#[tactic(auto, using(crate::proofs::Levels::none_left))]
 fn list(
     out: &mut [u8],
     at: usize,
@@ -95,23 +92,20 @@ fn list(
     ensures { Put out.old at (level_bytes p numbers store context left) result out.new }
 {
     if left == 0 {
-        let bytes = p.bytes;
-        return put(out, at, &bytes[..p.len]);
+        return put(out, at, &p.bytes[..p.len]);
     }
     let mut now = numbers;
     let mut place = at;
-    let mut c: usize = 0;
+    let mut c = 0;
     while c < steps.len() {
         let s = step_at(&steps[c..]);
         let size = length_at(&steps[c..]);
         let stepped = step(&mut now, store, context.all, s);
-        let outcome = stepped.outcome;
-        if moves(outcome) {
-            let next = p.with_step(&steps[c..c + size]);
+        if moves(stepped.outcome) {
             place = list(
                 out,
                 place,
-                next,
+                p.with_step(&steps[c..c + size]),
                 now,
                 stepped.store,
                 steps,
@@ -120,7 +114,7 @@ fn list(
             );
             now = numbers;
         }
-        c = c + size;
+        c += size;
     }
     place
 }
@@ -129,16 +123,7 @@ fn list(
 fn in_bounds(context: Context, k: u32) -> bool
     ensures { result ≡ in_bounds_with context k }
 {
-    let n = context.header.n;
-    if context.in_range() {
-        if n <= MOST_SITES {
-            k <= MOST_STEPS
-        } else {
-            false
-        }
-    } else {
-        false
-    }
+    context.in_range() && context.header.n <= MOST_SITES && k <= MOST_STEPS
 }
 
 // A schedule without a step: its header.
@@ -146,20 +131,16 @@ fn begin(header: Header) -> Prefix
     ensures { Begins header result }
 {
     let mut bytes = [0u8; LONGEST_EXERCISE];
-    let kind = header.kind;
-    let r = Record {
-        kind: kind,
-        first: header.n,
-        second: header.votes,
-    };
+    let r = Record::from(header);
     writer::put(&mut bytes, 0, r);
     Prefix {
-        bytes: bytes,
+        bytes,
         len: r.length(),
     }
 }
 
 // Puts the sheet under a header.
+#[tactic(auto, using(crate::proofs::Whole::first_level))]
 fn put_sheet(out: &mut [u8], context: Context, k: u32) -> usize
     requires { InBounds context k × (length (sheet_bytes context.header k) ≤ length out.old) }
     ensures { Put out.old 0 (sheet_bytes context.header k) result out.new }
@@ -167,29 +148,36 @@ fn put_sheet(out: &mut [u8], context: Context, k: u32) -> usize
     let header = context.header;
     let mut steps = [0u8; LONGEST_STEPS];
     let end = put_steps(&mut steps, header.n);
-    let p = begin(header);
-    let numbers = fresh(header.n, header.votes);
-    let store = Store::empty();
-    list(out, 0, p, numbers, store, &steps[..end], context, k)
+    list(
+        out,
+        0,
+        begin(header),
+        fresh(header.n, header.votes),
+        Store::empty(),
+        &steps[..end],
+        context,
+        k,
+    )
 }
 
-// Writes the sheet of all schedules under header 01 with n and these votes and k due steps. Answers its length; a sheet that is not there and a buffer
-// that is too short leave the buffer as it was.
-pub fn write_sheet(n: u32, votes: u32, k: u32, out: &mut [u8]) -> Written
+// Writes the sheet of all schedules under header 01 with n and these votes and k due steps. Answers its length; a sheet that is not there and a
+// buffer that is too short leave the buffer as it was.
+#[tactic(auto, using(crate::proofs::Whole::entry))]
+pub fn write_sheet(n: u32, votes: u32, k: u32, out: &mut [u8]) -> Result<usize, Refused>
     ensures { (result ≡ sheet_answers (length out.old) n votes k)
         × (written_hands result ≡ sheet_hands (length out.old) n votes k)
         × (out.new ≡ sheet_leaves out.old n votes k) }
 {
     let context = Header {
         kind: Kind::Header,
-        n: n,
-        votes: votes,
+        n,
+        votes,
     }
     .context();
-    if in_bounds(context, k) {
-        let mut sheet = [0u8; LONGEST_SHEET];
-        let end = put_sheet(&mut sheet, context, k);
-        return write_text(out, &sheet[..end]);
+    if !in_bounds(context, k) {
+        return Err(Refusal::OutOfRange.into());
     }
-    Written::Refused(OUT_OF_RANGE, 0)
+    let mut sheet = [0u8; LONGEST_SHEET];
+    let end = put_sheet(&mut sheet, context, k);
+    write_text(out, &sheet[..end])
 }

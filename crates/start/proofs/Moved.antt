@@ -6,7 +6,7 @@ use Prim.Native.Nat.{ℕ, suc, ◌+◌, ◌≤◌}
 use native.Mathlib.Omega.{arith}
 use lib.ListN.{length, take, drop}
 use lib.Seq.{sets-eq, take_at}
-use Rattle.number.specs.Refusal.{accepted}
+use Rattle.std.specs.Prelude.{None}
 use Rattle.number.proofs.Laws.{and_left, and_right, and_true}
 use Rattle.schedule.specs.Record.{header_in_range}
 use Rattle.schedule.proofs.Laws.{header_under}
@@ -32,7 +32,7 @@ moved_long : (tail : List ℕ) → length (moved_bytes tail) ≡ tail_length wid
 moved_long tail = tail_size_lem wide (tail_at narrow tail) (form_fits Kind.WideHeader).0 (fields_have Kind.Header tail)
 
 -- a move that is done leaves the wide tail at the front of the buffer
-pub moved_left : (buffer tail : List ℕ) → tail_refusal Kind.Header tail ≡ accepted → tail_length wide ≤ length buffer
+pub moved_left : (buffer tail : List ℕ) → tail_refusal Kind.Header tail ≡ None → tail_length wide ≤ length buffer
     → take (tail_length wide) (move_leaves buffer tail) ≡ moved_bytes tail
 moved_left buffer tail e room =
     ap (take (tail_length wide)) (sym (move_done buffer tail e room).1 ∙ sets-eq (moved_bytes tail) buffer 0 (omega (arith, moved_long tail)))

@@ -1,5 +1,5 @@
 -- What it says of a tail that nothing refuses it, and the release that it holds. Assumes nothing.
-use mathlib.Core.Path.{◌≡◌, refl}
+use mathlib.Core.Path.{◌≡◌, refl, sym, ap}
 use mathlib.Core.Bool.{Bool, true, false, cond}
 use mathlib.Core.List.{List}
 use Prim.Native.Nat.{ℕ, suc, ◌≤◌, ◌<◌}
@@ -7,7 +7,9 @@ use native.Mathlib.Omega.{arith}
 use lib.Dec.{eqb}
 use lib.ListN.{length, get_or}
 use borrow.Author.Tests.{eqb-true, eq-eqb}
-use Rattle.number.specs.Refusal.{accepted, out_of_range, wrong_length}
+use Rattle.std.specs.Prelude.{Some, None}
+use Rattle.std.proofs.lemmas.Option.{none-some, same_Some}
+use Rattle.number.specs.Refusal.{refusal_number}
 use Rattle.number.proofs.Table.{length_tabulate}
 use Rattle.store.specs.Log.{places}
 use Rattle.rules.specs.State.{types}
@@ -17,7 +19,7 @@ use Rattle.tail.proofs.TailRange.{calls_below}
 use Rattle.tail.proofs.Follows.{tail_numbers}
 use Rattle.form.specs.Form.{form_of, tail_length, message_at, participant_at, count_at, tail_at}
 use Rattle.form.specs.Kept.{HasFields}
-use Rattle.start.specs.Types.{Kind, Release, Tail}
+use Rattle.start.specs.Types.{Kind, Release, Tail, Refusal}
 use Rattle.start.specs.Start.{most_calls, tail_refusal}
 
 module _ (k : Kind) (tail : List ℕ) where
@@ -27,17 +29,17 @@ module _ (k : Kind) (tail : List ℕ) where
   abbrev release_there : Release
   release_there = release_of fields_there
 
-  pub taken : length tail ≡ tail_length (form_of k) → tail_in_range k (suc most_calls) fields_there ≡ true → tail_refusal k tail ≡ accepted
+  pub taken : length tail ≡ tail_length (form_of k) → tail_in_range k (suc most_calls) fields_there ≡ true → tail_refusal k tail ≡ None
   taken long ranged = simp (eq-eqb (length tail) (tail_length (form_of k)) long, ranged)
 
-  -- what refuses it is at most 10
-  pub refusal_most : tail_refusal k tail ≤ wrong_length
-  refusal_most = go (eqb (length tail) (tail_length (form_of k))) (tail_in_range k (suc most_calls) fields_there)
+  -- what refuses it has a number of at most 10
+  pub refusal_most : (x : Refusal) → tail_refusal k tail ≡ Some x → refusal_number x ≤ refusal_number Refusal.WrongLength
+  refusal_most x e = go (eqb (length tail) (tail_length (form_of k))) (tail_in_range k (suc most_calls) fields_there) e
     where
-      go : (a b : Bool) → cond a (cond b accepted out_of_range) wrong_length ≤ wrong_length
-      go true true = omega arith
-      go true false = omega arith
-      go false b = omega arith
+      go : (a b : Bool) → cond a (cond b None (Some Refusal.OutOfRange)) (Some Refusal.WrongLength) ≡ Some x → refusal_number x ≤ refusal_number Refusal.WrongLength
+      go true true e = absurd (none-some x e)
+      go true false e = omega (arith, ap refusal_number (same_Some Refusal.OutOfRange x e))
+      go false b e = omega (arith, ap refusal_number (same_Some Refusal.WrongLength x e))
 
   -- the fields have their lengths, whatever the bytes are
 
@@ -52,15 +54,15 @@ module _ (k : Kind) (tail : List ℕ) where
   pub start_places : HasPlaces release_there
   start_places = record { sites = length_tabulate places (λ i. site_of (fields_at fields_there i)); messages = fields_have.messages; calls = fields_have.calls }
 
-  module _ (e : tail_refusal k tail ≡ accepted) where
+  module _ (e : tail_refusal k tail ≡ None) where
     both : (length tail ≡ tail_length (form_of k)) × (tail_in_range k (suc most_calls) fields_there ≡ true)
     both = go (eqb (length tail) (tail_length (form_of k))) refl (tail_in_range k (suc most_calls) fields_there) refl e
       where
         go : (a : Bool) → eqb (length tail) (tail_length (form_of k)) ≡ a → (b : Bool) → tail_in_range k (suc most_calls) fields_there ≡ b
-            → cond a (cond b accepted out_of_range) wrong_length ≡ accepted → (length tail ≡ tail_length (form_of k)) × (tail_in_range k (suc most_calls) fields_there ≡ true)
+            → cond a (cond b None (Some Refusal.OutOfRange)) (Some Refusal.WrongLength) ≡ None → (length tail ≡ tail_length (form_of k)) × (tail_in_range k (suc most_calls) fields_there ≡ true)
         go true p true q e = (eqb-true (length tail) (tail_length (form_of k)) p, q)
-        go true p false q e = absurd (omega arith)
-        go false p b q e = absurd (omega arith)
+        go true p false q e = absurd (none-some Refusal.OutOfRange (sym e))
+        go false p b q e = absurd (none-some Refusal.WrongLength (sym e))
 
     pub long : length tail ≡ tail_length (form_of k)
     long = both.0

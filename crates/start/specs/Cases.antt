@@ -1,7 +1,7 @@
 -- Worked moves and starts, in the documents' numbers: what is taken and what is refused, field by field and in which order; and the bytes of a move.
 -- One theorem covers the tables: proofs/Cases.antt. Assumes nothing.
-use Rattle.std.specs.Prelude.{◌≡◌, List, [], ◌∷◌, ◌++◌, map, ℕ, ◌+◌, ◌*◌, replicate, set}
-use Rattle.number.specs.Refusal.{Handed, hands}
+use Rattle.std.specs.Prelude.{◌≡◌, List, [], ◌∷◌, ◌++◌, map, ℕ, replicate, set}
+use Rattle.number.specs.Refusal.{Handed, hands, refusal_number}
 use Rattle.schedule.specs.Schedule.{Reading, Accepted, Refused}
 use Rattle.start.specs.Types.{Kind, Step, Header}
 use Rattle.start.specs.Start.{read_from}
@@ -74,12 +74,20 @@ moved_to =
 
 -- the steps from a tail, or the refusal's number and place
 
+pub data Started : Type 0 where
+  accepts : Header → List Step → Started
+  refuses : ℕ → ℕ → Started
+
+abbrev pub started : Reading → Started
+started (Accepted h steps) = accepts h steps
+started (Refused k place) = refuses (refusal_number k) place
+
 pub record StartCase : Type 0 where
   pub tail : List ℕ
   pub bytes : List ℕ
-  pub must : Reading
+  pub must : Started
 
-abbrev start : List ℕ → List ℕ → Reading → StartCase
+abbrev start : List ℕ → List ℕ → Started → StartCase
 start tail bytes must = record { tail = tail; bytes = bytes; must = must }
 
 abbrev two : Header
@@ -88,28 +96,28 @@ two = record { kind = Kind.WideHeader; n = 2; votes = 3 }
 abbrev pub starts : List StartCase
 starts =
     -- an empty rest, and one of two steps
-    start wide_fresh [] (Accepted two [])
-    ∷ start wide_fresh (0x02 ∷ 0x08 ∷ 0x02 ∷ []) (Accepted two (Step.Start ∷ Step.Timeout 2 ∷ []))
+    start wide_fresh [] (accepts two [])
+    ∷ start wide_fresh (0x02 ∷ 0x08 ∷ 0x02 ∷ []) (accepts two (Step.Start ∷ Step.Timeout 2 ∷ []))
     -- a header of either kind, at place 0 and later; one that is cut short
-    ∷ start wide_fresh (0x01 ∷ 0x02 ∷ 0x03 ∷ []) (Refused 4 0)
-    ∷ start wide_fresh (0x0B ∷ 0x02 ∷ 0x03 ∷ 0x00 ∷ 0x00 ∷ 0x00 ∷ []) (Refused 4 0)
-    ∷ start wide_fresh (0x02 ∷ 0x01 ∷ 0x02 ∷ 0x03 ∷ []) (Refused 4 1)
-    ∷ start wide_fresh (0x01 ∷ 0x02 ∷ []) (Refused 3 0)
+    ∷ start wide_fresh (0x01 ∷ 0x02 ∷ 0x03 ∷ []) (refuses 4 0)
+    ∷ start wide_fresh (0x0B ∷ 0x02 ∷ 0x03 ∷ 0x00 ∷ 0x00 ∷ 0x00 ∷ []) (refuses 4 0)
+    ∷ start wide_fresh (0x02 ∷ 0x01 ∷ 0x02 ∷ 0x03 ∷ []) (refuses 4 1)
+    ∷ start wide_fresh (0x01 ∷ 0x02 ∷ []) (refuses 3 0)
     -- the tail comes before the records, its length before its fields
-    ∷ start (replicate 319 0) (0xFF ∷ []) (Refused 10 0)
-    ∷ start (replicate 321 0) (0xFF ∷ []) (Refused 10 0)
-    ∷ start narrow_fresh [] (Refused 10 0)
-    ∷ start (replicate 320 0) (0xFF ∷ []) (Refused 5 0)
-    ∷ start (set wide_fresh 0 33) [] (Refused 5 0)
-    ∷ start (set (set wide_fresh 254 240) 255 210) [] (Accepted two [])
-    ∷ start (set (set wide_fresh 254 241) 255 210) [] (Refused 5 0)
+    ∷ start (replicate 319 0) (0xFF ∷ []) (refuses 10 0)
+    ∷ start (replicate 321 0) (0xFF ∷ []) (refuses 10 0)
+    ∷ start narrow_fresh [] (refuses 10 0)
+    ∷ start (replicate 320 0) (0xFF ∷ []) (refuses 5 0)
+    ∷ start (set wide_fresh 0 33) [] (refuses 5 0)
+    ∷ start (set (set wide_fresh 254 240) 255 210) [] (accepts two [])
+    ∷ start (set (set wide_fresh 254 241) 255 210) [] (refuses 5 0)
     -- records, from the left
-    ∷ start wide_fresh (0x02 ∷ 0xFF ∷ []) (Refused 2 1)
-    ∷ start wide_fresh (0x08 ∷ []) (Refused 3 0)
-    ∷ start wide_fresh (0x08 ∷ 0x03 ∷ []) (Refused 5 0)
+    ∷ start wide_fresh (0x02 ∷ 0xFF ∷ []) (refuses 2 1)
+    ∷ start wide_fresh (0x08 ∷ []) (refuses 3 0)
+    ∷ start wide_fresh (0x08 ∷ 0x03 ∷ []) (refuses 5 0)
     ∷ []
 
 pub record CasesHold : Type 0 where
   pub moves_hold : map (λ c. move_hands c.room c.tail) moves ≡ map (λ c. c.must) moves
   pub moved_holds : moved_bytes moved_from ≡ moved_to
-  pub starts_hold : map (λ c. read_from c.tail c.bytes) starts ≡ map (λ c. c.must) starts
+  pub starts_hold : map (λ c. started (read_from c.tail c.bytes)) starts ≡ map (λ c. c.must) starts

@@ -3,10 +3,9 @@ pub use Rattle.kind.specs.declared.Kind.{Kind}
 pub use Rattle.kind.specs.declared.Step.{Step}
 pub use Rattle.schedule.specs.declared.Header.{Header}
 pub use Rattle.schedule.specs.declared.Context.{Context}
-pub use Rattle.schedule.specs.declared.reader.Before.{Before}
-pub use Rattle.schedule.specs.declared.reader.Read.{Read}
-pub use Rattle.writer.specs.declared.Written.{Written}
 pub use Rattle.rules.specs.declared.Release.{Release}
 pub use Rattle.tail.specs.declared.Tail.{Tail}
-pub use Rattle.passes.specs.declared.Validated.{Validated}
+pub use Rattle.number.specs.declared.Refusal.{Refusal}
+pub use Rattle.number.specs.declared.Refused.{Refused}
 pub use Rattle.start.specs.declared.Start.{Start}
+pub use Rattle.form.specs.declared.Form.{Form}

@@ -2,126 +2,84 @@
 #![tactic(auto)]
 
 ghost use Rattle.std.specs.Prelude.{◌≡◌, length};
-ghost use Rattle.number.specs.Refusal.{accepted};
+ghost use Rattle.std.specs.Result.{ForOk};
 ghost use Rattle.schedule.specs.Context.{context_of};
 ghost use Rattle.writer.specs.Writer.{written_hands};
-ghost use Rattle.state.specs.Fields.{fields as numbersOf};
-ghost use Rattle.tail.specs.Tail.{release_of};
-ghost use Rattle.passes.specs.Pass.{validated};
-ghost use Rattle.start.specs.Start.{StartOf, read_under};
+ghost use Rattle.start.specs.Start.{start_of, validated_from};
 ghost use Rattle.start.specs.Move.{move_answers, move_hands, move_leaves};
 
 use form::form_of;
 use kind::Kind;
 use layout::put_tail;
 use layout::read::read_tail;
-use number::{EMPTY_OR_TOO_LONG, OUT_OF_RANGE, TOO_SHORT, WRONG_LENGTH};
-use passes::{Validated, count_steps};
-use schedule::{Context, Header, LONGEST};
-use state::{FIELDS, fields_of, fresh};
+use number::{Refusal, Refused};
+use passes::count_steps;
+use schedule::{Context, LONGEST};
+use state::{FIELDS, fields_of};
 use store::Store;
-use tail::Tail;
-use writer::Written;
 
 // A call count over 54,000 is out of range: a run may add the calls of 32,768 bytes, three bytes each, and no count passes its limit.
 const START_LIMIT: u16 = 54001;
 
-// A tail that was read: what refuses it, or 0. Where nothing does, the header that its n and votes are of, with the mask of all participants, and its
-// release as numbers and store.
+// A tail that was read: the header that its n and votes are of, with the mask of all participants, and its release as numbers and store.
 #[derive(Clone, Copy)]
 pub struct Start {
-    pub refusal: u32,
     pub context: Context,
     pub numbers: [u32; FIELDS],
     pub store: Store,
 }
 
-// The start of a tail that is refused.
-fn refused(k: u32, kind: Kind) -> Start
-    ensures { (result.refusal ≡ k) × (result.context ≡ context_of result.context.header) }
-{
-    let numbers = fresh(0, 0);
-    let store = Store::empty();
-    let header = Header {
-        kind: kind,
-        n: 0,
-        votes: 0,
-    };
-    Start {
-        refusal: k,
-        context: Context {
-            header: header,
-            all: 0,
-        },
-        numbers: numbers,
-        store: store,
-    }
-}
-
-// The start of a tail with these fields, under its header.
-fn start_of(fields: Tail, context: Context) -> Start
-    ensures { (result.refusal ≡ accepted) × (result.context ≡ context) × (result.numbers ≡ numbersOf (release_of fields)) × (result.store ≡ (release_of fields).store) }
-{
-    let r = fields.release();
-    let numbers = fields_of(r);
-    let store = r.store;
-    Start {
-        refusal: 0,
-        context: context,
-        numbers: numbers,
-        store: store,
-    }
-}
-
 // Reads a tail under a header of a kind. The mask of all participants is worked out here, for the test of its fields and for all records and steps of
 // a run from it.
-pub fn read_start(tail: &[u8], kind: Kind) -> Start
-    ensures { StartOf kind tail.now result }
+pub fn read_start(tail: &[u8], kind: Kind) -> Result<Start, Refusal>
+    ensures { result ≡ start_of kind tail.now }
 {
     let form = form_of(kind);
     if tail.len() != form.length() {
-        return refused(WRONG_LENGTH, kind);
+        return Err(Refusal::WrongLength);
     }
     let fields = read_tail(tail, form);
     let context = fields.header(kind).context();
-    if fields.in_range(context, START_LIMIT) {
-        start_of(fields, context)
-    } else {
-        refused(OUT_OF_RANGE, kind)
+    if !fields.in_range(context, START_LIMIT) {
+        return Err(Refusal::OutOfRange);
     }
+    let release = fields.release();
+    let numbers = fields_of(release);
+    Ok(Start {
+        context,
+        numbers,
+        store: release.store,
+    })
 }
 
 // Moves a tail of 59 bytes: writes the one of 320 with the same fields, and answers its length. A refusal leaves the buffer as it was.
-pub fn move_tail(tail: &[u8], wide: &mut [u8]) -> Written
+pub fn move_tail(tail: &[u8], wide: &mut [u8]) -> Result<usize, Refused>
     ensures { (result ≡ move_answers (length wide.old) tail.now)
         × (written_hands result ≡ move_hands (length wide.old) tail.now)
         × (wide.new ≡ move_leaves wide.old tail.now) }
 {
-    let start = read_start(tail, Kind::Header);
-    if start.refusal != 0 {
-        return Written::Refused(start.refusal, 0);
-    }
+    let start = read_start(tail, Kind::Header)?;
     let form = form_of(Kind::WideHeader);
     let needed = form.length();
     if wide.len() < needed {
-        return Written::Refused(TOO_SHORT, needed);
+        return Err(Refused {
+            refusal: Refusal::TooShort,
+            value: needed,
+        });
     }
-    let numbers = start.numbers;
-    let store = start.store;
-    put_tail(wide, 0, &numbers, store, form);
-    Written::Done(needed)
+    put_tail(wide, 0, &start.numbers, start.store, form);
+    Ok(needed)
 }
 
 // The first pass of a run from a tail: what refuses it, and then the steps from the left, under its header, with their count.
-pub fn validate_from(refusal: u32, context: Context, rest: &[u8]) -> Validated
-    requires { context ≡ context_of context.header }
-    ensures { result ≡ validated (read_under refusal context.header rest.now) }
+pub fn validate_from(start: Result<Start, Refusal>, rest: &[u8]) -> Result<(Start, usize), Refused>
+    requires { ForOk start (λ s. s.context ≡ context_of s.context.header) }
+    ensures { result ≡ validated_from start rest.now }
 {
     if LONGEST < rest.len() {
-        return Validated::Refused(EMPTY_OR_TOO_LONG, 0);
+        return Err(Refusal::EmptyOrTooLong.into());
     }
-    if refusal != 0 {
-        return Validated::Refused(refusal, 0);
-    }
-    count_steps(rest, 0, context)
+    let start = start?;
+    let (_, steps) = count_steps(rest, 0, start.context)?;
+    Ok((start, steps))
 }

@@ -1,7 +1,7 @@
 // The state of a release but for its store, as an array of numbers that a run changes in place: n and votes, the coordinator's state and heard mask,
 // a mask for each type of message; then every participant's state, every heard mask; then every party's count of calls. `i` is the place of a
 // participant, which counts from 0.
-#![tactic(auto)]
+#![tactic(auto, unfolding(crate::specs::Fields::participant_in, crate::specs::Fields::with_participant_in, crate::specs::Fields::coordinator_in, crate::specs::Fields::with_coordinator_in, crate::specs::Fields::mask_place, crate::specs::Fields::mask_in, crate::specs::Fields::with_mask_in, crate::specs::Fields::counted_in,))]
 
 ghost use Rattle.std.specs.Prelude.{◌≡◌, suc, ◌+◌, ◌<◌, get_or};
 ghost use Rattle.store.specs.Log.{places};
@@ -80,15 +80,13 @@ fn mask_place(m: Message) -> usize
 pub fn mask_of(fields: &[u32; FIELDS], m: Message) -> u32
     ensures { result ≡ mask_in fields.now m }
 {
-    let k = mask_place(m);
-    fields[k]
+    fields[mask_place(m)]
 }
 
 pub fn put_mask(fields: &mut [u32; FIELDS], m: Message, x: u32)
     ensures { fields.new ≡ with_mask_in m x fields.old }
 {
-    let k = mask_place(m);
-    fields[k] = x;
+    fields[mask_place(m)] = x;
 }
 
 // One call more of party p.
@@ -110,6 +108,7 @@ pub fn fresh(n: u32, votes: u32) -> [u32; FIELDS]
     l
 }
 
+// Here and below an array is filled by place: `array::from_fn` was tried, and says of an element only that some state of the closure gave it.
 fn messages(fields: &[u32; FIELDS]) -> [u32; TYPES]
     ensures { result ≡ tabulate types (message_in fields.now) }
 {
@@ -127,9 +126,8 @@ fn sites(fields: &[u32; FIELDS]) -> [Site; LOGS]
         participant: Participant::Waiting,
     }; LOGS];
     for i in 0..LOGS {
-        let participant = participant_at(fields, i as u32);
         sites[i] = Site {
-            participant: participant,
+            participant: participant_at(fields, i as u32),
         };
     }
     sites
@@ -150,18 +148,14 @@ fn counts(fields: &[u32; FIELDS]) -> [u16; PARTIES]
 pub fn release(fields: &[u32; FIELDS], store: Store) -> Release
     ensures { result ≡ release_in fields.now store }
 {
-    let coordinator = coordinator(fields);
-    let messages = messages(fields);
-    let sites = sites(fields);
-    let calls = counts(fields);
     Release {
         n: fields[0],
         votes: votes(fields),
-        coordinator: coordinator,
-        messages: messages,
-        sites: sites,
-        store: store,
-        calls: calls,
+        coordinator: coordinator(fields),
+        messages: messages(fields),
+        sites: sites(fields),
+        store,
+        calls: counts(fields),
     }
 }
 
@@ -177,9 +171,7 @@ fn put_participants(fields: &mut [u32; FIELDS], sites: [Site; LOGS])
     ensures { Puts (with_sites (tabulate places (λ i. get_or sites i waiting))) fields.old fields.new }
 {
     for i in 0..LOGS {
-        let site = sites[i];
-        let participant = site.participant;
-        put_participant(fields, i as u32, participant);
+        put_participant(fields, i as u32, sites[i].participant);
     }
 }
 
@@ -187,8 +179,7 @@ fn put_counts(fields: &mut [u32; FIELDS], counts: [u16; PARTIES])
     ensures { Puts (with_calls (tabulate (suc places) (λ p. get_or counts p 0))) fields.old fields.new }
 {
     for p in 0..PARTIES {
-        let k = counts[p];
-        fields[COUNTS + p] = k as u32;
+        fields[COUNTS + p] = counts[p] as u32;
     }
 }
 
@@ -196,14 +187,10 @@ fn put_counts(fields: &mut [u32; FIELDS], counts: [u16; PARTIES])
 pub fn fields_of(r: Release) -> [u32; FIELDS]
     ensures { result ≡ fields r }
 {
-    let coordinator = r.coordinator;
-    let messages = r.messages;
-    let sites = r.sites;
-    let calls = r.calls;
     let mut l = fresh(r.n, r.votes);
-    put_coordinator(&mut l, coordinator);
-    put_messages(&mut l, messages);
-    put_participants(&mut l, sites);
-    put_counts(&mut l, calls);
+    put_coordinator(&mut l, r.coordinator);
+    put_messages(&mut l, r.messages);
+    put_participants(&mut l, r.sites);
+    put_counts(&mut l, r.calls);
     l
 }

@@ -13,43 +13,40 @@ fn print_pair(rt: &impl Print, a: u64, b: u64) -> io::Result<()> {
 
 // The state after the step, or as it was.
 fn step(rt: &impl Print, t: Tail, kind: u32, a: u32, b: u32) -> io::Result<Tail> {
-    let s = t.single_step(kind, a, b);
-    print_pair(rt, s.number as u64, s.byte as u64)?;
-    Ok(s.state)
+    match t.single_step(kind, a, b) {
+        Ok(s) => {
+            print_pair(rt, 0, u64::from(s.byte))?;
+            Ok(s.state)
+        }
+        Err(refusal) => {
+            print_pair(rt, u64::from(refusal.number()), 0)?;
+            Ok(t)
+        }
+    }
 }
 
 // A fresh release of two participants, both of whom vote yes.
 fn fresh() -> Tail {
-    let zero = ParticipantFields {
-        state: 0,
-        heard: 0,
-        first: 0,
-        last: 0,
-    };
     let messages = [0u32; TYPES];
-    let participants = [zero; LOGS];
+    let participants = [ParticipantFields::ZERO; LOGS];
     let calls = [0u16; PARTIES];
     Tail {
         n: 2,
         votes: 3,
         state: 0,
         heard: 0,
-        messages: messages,
-        participants: participants,
-        calls: calls,
+        messages,
+        participants,
+        calls,
     }
-}
-
-fn wide(k: u16) -> u64 {
-    k as u64
 }
 
 fn print_end(rt: &impl Print, t: Tail) -> io::Result<()> {
     let first = t.participants[0];
     let second = t.participants[1];
-    print_pair(rt, first.first as u64, first.last as u64)?;
-    print_pair(rt, second.first as u64, second.last as u64)?;
-    print_pair(rt, wide(t.calls[1]), wide(t.calls[2]))
+    print_pair(rt, u64::from(first.first), u64::from(first.last))?;
+    print_pair(rt, u64::from(second.first), u64::from(second.last))?;
+    print_pair(rt, u64::from(t.calls[1]), u64::from(t.calls[2]))
 }
 
 fn main(rt: HostRuntime) -> io::Result<()> {

@@ -1,8 +1,9 @@
 -- What each of the two calls can do, once and for all: a property of the cases is a property of the call. Assumes nothing.
 use mathlib.Core.Path.{◌≡◌, refl}
 use mathlib.Core.Bool.{Bool, true, false, cond}
+use Rattle.std.specs.Prelude.{Option}
 use Rattle.store.specs.Log.{is_none, leaves, once_on, log_once, replaces, log, perform}
-use Rattle.store.specs.Types.{LogRecord, None, Yes, Abort, Commit, LogPair, Call, Logged, Performed}
+use Rattle.store.specs.Types.{LogRecord, None, Yes, Abort, Commit, LogPair, Call, Logged}
 
 -- LogOnce writes a log that has no first record, or leaves it
 pub once_cases : (P : Logged → Type 0) (r : LogRecord) (l : LogPair) → (l.first ≡ None → P (leaves true (record { first = r; last = r }))) → P (leaves false l)
@@ -16,20 +17,20 @@ once_cases P r l a b = go l.first refl
     go Commit e = b
 
 -- Log is refused, or replaces the last record
-pub log_cases : (P : Performed → Type 0) (r : LogRecord) (l : LogPair) → P Performed.Refused
-    → P (Performed.Done (leaves false (record { first = l.first; last = r }))) → P (log r l)
+pub log_cases : (P : Option Logged → Type 0) (r : LogRecord) (l : LogPair) → P Option.None
+    → P (Option.Some (leaves false (record { first = l.first; last = r }))) → P (log r l)
 log_cases P r l a b = go (replaces r l.last)
   where
-    go : (t : Bool) → P (cond t (Performed.Done (leaves false (record { first = l.first; last = r }))) Performed.Refused)
+    go : (t : Bool) → P (cond t (Option.Some (leaves false (record { first = l.first; last = r }))) Option.None)
     go true = b
     go false = a
 
 -- a call that is not refused answers the last record afterwards
-abbrev pub AnswersLast : Performed → Type 0
-AnswersLast Performed.Refused = Unit {0}
-AnswersLast (Performed.Done x) = x.answer ≡ x.log.last
+abbrev pub AnswersLast : Option Logged → Type 0
+AnswersLast Option.None = Unit {0}
+AnswersLast (Option.Some x) = x.answer ≡ x.log.last
 
-pub perform_answers : (c : Call) (l : LogPair) → AnswersLast (perform c l)
-perform_answers Call.None l = tt
-perform_answers (Call.LogOnce r) l = refl
-perform_answers (Call.Log r) l = log_cases AnswersLast r l tt refl
+pub perform_answers : (c : Option Call) (l : LogPair) → AnswersLast (perform c l)
+perform_answers Option.None l = tt
+perform_answers (Option.Some (Call.LogOnce r)) l = refl
+perform_answers (Option.Some (Call.Log r)) l = log_cases AnswersLast r l tt refl

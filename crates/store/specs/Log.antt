@@ -1,7 +1,7 @@
 -- One log: its records, the pairs allowed, and the two calls. The rules of a release and the log entries cite them. Assumes nothing.
-use Rattle.std.specs.Prelude.{Bool, true, false, cond, ◌&&◌, [], ◌∷◌, ℕ, eqb}
+use Rattle.std.specs.Prelude.{Bool, true, false, cond, ◌&&◌, [], ◌∷◌, ℕ, Option, Result}
 use Rattle.number.specs.Numbering.{numbered, is_number}
-use Rattle.store.specs.Types.{LogRecord, None, Yes, Abort, Commit, LogPair, Call, Logged, Performed}
+use Rattle.store.specs.Types.{LogRecord, None, Yes, Abort, Commit, LogPair, Call, Logged, Refusal}
 
 -- Log records: 0 none, 1 yes, 2 abort, 3 commit
 abbrev pub record_number : LogRecord → ℕ
@@ -15,6 +15,10 @@ record_of k = numbered record_number None (Yes ∷ Abort ∷ Commit ∷ []) k
 
 abbrev pub is_record : ℕ → Bool
 is_record k = is_number record_number record_of k
+
+-- the record with number k; where there is none, the number is out of range
+abbrev pub record_with : ℕ → Result LogRecord Refusal
+record_with k = cond (is_record k) (Result.Ok (record_of k)) (Result.Err Refusal.OutOfRange)
 
 abbrev pub is_none : LogRecord → Bool
 is_none None = true
@@ -54,10 +58,6 @@ allowed Commit last = false
 abbrev pub is_allowed : LogPair → Bool
 is_allowed l = allowed l.first l.last
 
--- two logs have the same records
-abbrev pub same_records : LogPair → LogPair → Bool
-same_records l m = eqb (record_number l.first) (record_number m.first) && eqb (record_number l.last) (record_number m.last)
-
 -- a call answers the last record afterwards and says, by request 2026-01, whether it wrote the first one
 abbrev pub leaves : Bool → LogPair → Logged
 leaves wrote l = record { answer = l.last; wrote = wrote; log = l }
@@ -85,14 +85,14 @@ replaces Commit Yes = true
 replaces Commit Abort = false
 replaces Commit Commit = true
 
-abbrev pub log : LogRecord → LogPair → Performed
-log r l = cond (replaces r l.last) (Performed.Done (leaves false (record { first = l.first; last = r }))) Performed.Refused
+abbrev pub log : LogRecord → LogPair → Option Logged
+log r l = cond (replaces r l.last) (Option.Some (leaves false (record { first = l.first; last = r }))) Option.None
 
--- what a party's call makes of a log
-abbrev pub perform : Call → LogPair → Performed
-perform Call.None l = Performed.Refused
-perform (Call.LogOnce r) l = Performed.Done (log_once r l)
-perform (Call.Log r) l = log r l
+-- what a party's call, if it has one, makes of a log
+abbrev pub perform : Option Call → LogPair → Option Logged
+perform Option.None l = Option.None
+perform (Option.Some (Call.LogOnce r)) l = Option.Some (log_once r l)
+perform (Option.Some (Call.Log r)) l = log r l
 
 -- the call wrote the first record, an abort
 abbrev pub wrote_abort : Logged → Bool

@@ -5,5 +5,4 @@ pub use Rattle.store.specs.declared.LogPair.{LogPair}
 pub use Rattle.store.specs.declared.Store.{Store}
 pub use Rattle.store.specs.declared.Call.{Call}
 pub use Rattle.store.specs.declared.Logged.{Logged}
-pub use Rattle.store.specs.declared.Performed.{Performed}
-pub use Rattle.store.specs.declared.EntryAnswer.{EntryAnswer}
+pub use Rattle.number.specs.declared.Refusal.{Refusal}

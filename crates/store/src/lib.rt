@@ -2,23 +2,25 @@
 #![tactic(auto)]
 
 ghost use Rattle.std.specs.Prelude.{◌≡◌, get_or, set, replicate};
-ghost use Rattle.store.specs.Log.{record_number, record_of, is_record, empty, places, is_allowed, same_records, log_once, replaces, log, perform, wrote_abort};
-ghost use Rattle.store.specs.Entry.{handed, log_once_entry, log_hands, log_entry};
+ghost use Rattle.store.specs.Log.{record_number, record_of, record_with, empty, places, is_allowed, log_once, replaces, log, perform, wrote_abort};
+ghost use Rattle.store.specs.Entry.{handed, log_once_entry, log_entry};
+
+use number::Refusal;
 
 // How many logs a store has: one for each participant that it has room for.
 pub const LOGS: usize = 32;
 
 // A log record.
-#[derive(Clone, Copy)]
+#[derive(Clone, Copy, Debug, PartialEq, Eq)]
 pub enum LogRecord {
-    None,
-    Yes,
-    Abort,
-    Commit,
+    None = 0,
+    Yes = 1,
+    Abort = 2,
+    Commit = 3,
 }
 
 // A log: its first and its last record.
-#[derive(Clone, Copy)]
+#[derive(Clone, Copy, Debug, PartialEq, Eq)]
 pub struct LogPair {
     pub first: LogRecord,
     pub last: LogRecord,
@@ -30,36 +32,19 @@ pub struct Store {
     pub logs: [LogPair; LOGS],
 }
 
-// What a party asks of a log, if anything.
-#[derive(Clone, Copy)]
+// What a party asks of a log.
+#[derive(Clone, Copy, Debug, PartialEq, Eq)]
 pub enum Call {
-    None,
     LogOnce(LogRecord),
     Log(LogRecord),
 }
 
 // What a call leaves: its answer, whether it wrote the first record, and the log afterwards.
-#[derive(Clone, Copy)]
+#[derive(Clone, Copy, Debug, PartialEq, Eq)]
 pub struct Logged {
     pub answer: LogRecord,
     pub wrote: bool,
     pub log: LogPair,
-}
-
-// What the store makes of a call.
-#[derive(Clone, Copy)]
-pub enum Performed {
-    Refused,
-    Done(Logged),
-}
-
-// What a log entry hands over: what the call left, or a refusal with the log as given.
-#[derive(Clone, Copy)]
-pub enum EntryAnswer {
-    Done(Logged),
-    OutOfRange(LogPair),
-    WrongRecord(LogPair),
-    RefusedByRule(LogPair),
 }
 
 impl LogRecord {
@@ -67,75 +52,49 @@ impl LogRecord {
     pub fn number(self) -> u32
         ensures { result ≡ record_number self }
     {
-        match self {
-            LogRecord::None => 0,
-            LogRecord::Yes => 1,
-            LogRecord::Abort => 2,
-            LogRecord::Commit => 3,
-        }
+        self as u32
     }
 
     // The record with number k; where there is none, no record.
     pub fn of(k: u32) -> LogRecord
         ensures { result ≡ record_of k }
     {
-        match k {
-            1 => LogRecord::Yes,
-            2 => LogRecord::Abort,
-            3 => LogRecord::Commit,
-            _ => LogRecord::None,
-        }
+        LogRecord::try_from(k).unwrap_or(LogRecord::None)
     }
+}
 
-    // Whether k is the number of a record.
-    pub fn known(k: u32) -> bool
-        ensures { result ≡ is_record k }
-    {
-        LogRecord::of(k).number() == k
+// A number that no record has is out of range.
+impl TryFrom<u32> for LogRecord {
+    type Error = Refusal;
+
+    ghost try_from_gives = { λ k r. r ≡ record_with k };
+
+    fn try_from(k: u32) -> Result<LogRecord, Refusal> {
+        match k {
+            0 => Ok(LogRecord::None),
+            1 => Ok(LogRecord::Yes),
+            2 => Ok(LogRecord::Abort),
+            3 => Ok(LogRecord::Commit),
+            _ => Err(Refusal::OutOfRange),
+        }
     }
 }
 
 impl LogPair {
-    // Whether it has the same records.
-    fn same(self, l: LogPair) -> bool
-        ensures { result ≡ same_records self l }
-    {
-        let first = self.first;
-        let last = self.last;
-        let other_first = l.first;
-        let other_last = l.last;
-        if first.number() == other_first.number() {
-            last.number() == other_last.number()
-        } else {
-            false
-        }
-    }
+    // No record.
+    pub const EMPTY: LogPair = LogPair {
+        first: LogRecord::None,
+        last: LogRecord::None,
+    };
 
     // Whether a log can hold this pair.
     pub fn allowed(self) -> bool
         ensures { result ≡ is_allowed self }
     {
-        let first = self.first;
-        let last = self.last;
-        match first {
-            LogRecord::None => match last {
-                LogRecord::None => true,
-                LogRecord::Yes => false,
-                LogRecord::Abort => false,
-                LogRecord::Commit => false,
-            },
-            LogRecord::Yes => match last {
-                LogRecord::None => false,
-                LogRecord::Yes => true,
-                LogRecord::Abort => true,
-                LogRecord::Commit => true,
-            },
-            LogRecord::Abort => match last {
-                LogRecord::None => false,
-                LogRecord::Yes => false,
-                LogRecord::Abort => true,
-                LogRecord::Commit => false,
-            },
+        match self.first {
+            LogRecord::None => self.last == LogRecord::None,
+            LogRecord::Yes => self.last != LogRecord::None,
+            LogRecord::Abort => self.last == LogRecord::Abort,
             LogRecord::Commit => false,
         }
     }
@@ -144,29 +103,18 @@ impl LogPair {
     pub fn log_once(self, r: LogRecord) -> Logged
         ensures { result ≡ log_once r self }
     {
-        let first = self.first;
-        let last = self.last;
-        match first {
-            LogRecord::None => Logged {
+        if self.first == LogRecord::None {
+            Logged {
                 answer: r,
                 wrote: true,
                 log: LogPair { first: r, last: r },
-            },
-            LogRecord::Yes => Logged {
-                answer: last,
+            }
+        } else {
+            Logged {
+                answer: self.last,
                 wrote: false,
                 log: self,
-            },
-            LogRecord::Abort => Logged {
-                answer: last,
-                wrote: false,
-                log: self,
-            },
-            LogRecord::Commit => Logged {
-                answer: last,
-                wrote: false,
-                log: self,
-            },
+            }
         }
     }
 
@@ -174,94 +122,64 @@ impl LogPair {
     fn replaceable(self, r: LogRecord) -> bool
         ensures { result ≡ replaces r self.last }
     {
-        let last = self.last;
         match r {
-            LogRecord::None => false,
-            LogRecord::Yes => false,
-            LogRecord::Abort => match last {
-                LogRecord::None => false,
-                LogRecord::Yes => true,
-                LogRecord::Abort => true,
-                LogRecord::Commit => false,
-            },
-            LogRecord::Commit => match last {
-                LogRecord::None => false,
-                LogRecord::Yes => true,
-                LogRecord::Abort => false,
-                LogRecord::Commit => true,
-            },
+            LogRecord::Abort => matches!(self.last, LogRecord::Yes | LogRecord::Abort),
+            LogRecord::Commit => matches!(self.last, LogRecord::Yes | LogRecord::Commit),
+            _ => false,
         }
     }
 
-    // Log of any record.
-    pub fn log(self, r: LogRecord) -> Performed
+    // Log of any record, where its rule does not refuse it.
+    pub fn log(self, r: LogRecord) -> Option<Logged>
         ensures { result ≡ log r self }
     {
-        let first = self.first;
         if self.replaceable(r) {
-            Performed::Done(Logged {
+            Some(Logged {
                 answer: r,
                 wrote: false,
                 log: LogPair {
-                    first: first,
+                    first: self.first,
                     last: r,
                 },
             })
         } else {
-            Performed::Refused
+            None
         }
     }
 
-    // What a party's call makes of this log.
-    pub fn perform(self, c: Call) -> Performed
+    // What a party's call makes of this log, if it makes one that is not refused.
+    pub fn perform(self, c: Option<Call>) -> Option<Logged>
         ensures { result ≡ perform c self }
     {
-        match c {
-            Call::None => Performed::Refused,
-            Call::LogOnce(r) => Performed::Done(self.log_once(r)),
+        match c? {
+            Call::LogOnce(r) => Some(self.log_once(r)),
             Call::Log(r) => self.log(r),
         }
     }
 
-    // The log entry LogOnce.
-    pub fn log_once_entry(self, r: LogRecord) -> EntryAnswer
-        ensures { handed result ≡ log_once_entry self r }
+    // The log entry LogOnce. A refusal leaves the log as it was.
+    pub fn log_once_entry(self, r: LogRecord) -> Result<Logged, Refusal>
+        ensures { handed self result ≡ log_once_entry self r }
     {
-        if self.allowed() {
-            match r {
-                LogRecord::None => EntryAnswer::WrongRecord(self),
-                LogRecord::Yes => EntryAnswer::Done(self.log_once(r)),
-                LogRecord::Abort => EntryAnswer::Done(self.log_once(r)),
-                LogRecord::Commit => EntryAnswer::WrongRecord(self),
-            }
-        } else {
-            EntryAnswer::OutOfRange(self)
+        if !self.allowed() {
+            return Err(Refusal::OutOfRange);
+        }
+        match r {
+            LogRecord::Yes | LogRecord::Abort => Ok(self.log_once(r)),
+            _ => Err(Refusal::WrongRecord),
         }
     }
 
-    // What the log entry Log hands over of a call.
-    fn entry_answer(self, p: Performed) -> EntryAnswer
-        ensures { handed result ≡ log_hands p self }
+    // The log entry Log. A refusal leaves the log as it was.
+    pub fn log_entry(self, r: LogRecord) -> Result<Logged, Refusal>
+        ensures { handed self result ≡ log_entry self r }
     {
-        match p {
-            Performed::Refused => EntryAnswer::RefusedByRule(self),
-            Performed::Done(x) => EntryAnswer::Done(x),
+        if !self.allowed() {
+            return Err(Refusal::OutOfRange);
         }
-    }
-
-    // The log entry Log.
-    pub fn log_entry(self, r: LogRecord) -> EntryAnswer
-        ensures { handed result ≡ log_entry self r }
-    {
-        if self.allowed() {
-            match r {
-                LogRecord::None => EntryAnswer::WrongRecord(self),
-                LogRecord::Yes => EntryAnswer::WrongRecord(self),
-                LogRecord::Abort => self.entry_answer(self.log(r)),
-                LogRecord::Commit => self.entry_answer(self.log(r)),
-            }
-        } else {
-            EntryAnswer::OutOfRange(self)
+        match r {
+            LogRecord::Abort | LogRecord::Commit => self.log(r).ok_or(Refusal::RefusedByRule),
+            _ => Err(Refusal::WrongRecord),
         }
     }
 }
@@ -271,17 +189,7 @@ impl Logged {
     pub fn wrote_abort(self) -> bool
         ensures { result ≡ wrote_abort self }
     {
-        let answer = self.answer;
-        if self.wrote {
-            match answer {
-                LogRecord::None => false,
-                LogRecord::Yes => false,
-                LogRecord::Abort => true,
-                LogRecord::Commit => false,
-            }
-        } else {
-            false
-        }
+        self.wrote && self.answer == LogRecord::Abort
     }
 }
 
@@ -290,11 +198,9 @@ impl Store {
     pub fn empty() -> Store
         ensures { result ≡ record { logs = replicate places empty } }
     {
-        let logs = [LogPair {
-            first: LogRecord::None,
-            last: LogRecord::None,
-        }; LOGS];
-        Store { logs: logs }
+        Store {
+            logs: [LogPair::EMPTY; LOGS],
+        }
     }
 
     // The log at place i. A place that no store has is empty.
@@ -304,10 +210,7 @@ impl Store {
         if i < LOGS {
             self.logs[i]
         } else {
-            LogPair {
-                first: LogRecord::None,
-                last: LogRecord::None,
-            }
+            LogPair::EMPTY
         }
     }
 
@@ -317,11 +220,7 @@ impl Store {
         ensures { result ≡ record { logs = set self.logs i l } }
     {
         let mut next = self;
-        if i < LOGS {
-            let old = self.logs[i];
-            if old.same(l) {
-                return next;
-            }
+        if i < LOGS && self.logs[i] != l {
             next.logs[i] = l;
         }
         next

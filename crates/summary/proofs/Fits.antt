@@ -1,15 +1,15 @@
 -- The text of an answer is the summary of its file, and a text of `longest_summary` bytes has room for every summary. Assumes nothing.
-use mathlib.Core.Path.{◌≡◌, refl, ap}
-use mathlib.Core.Bool.{cond}
+use mathlib.Core.Path.{◌≡◌, refl}
 use mathlib.Core.List.{List}
 use Prim.Native.Nat.{ℕ, suc, ◌+◌, ◌*◌, ◌≤◌, ◌<◌}
 use native.Mathlib.Omega.{arith}
 use native.Mathlib.Decide.{dec_lt}
 use lib.ListN.{length, get_or, take, get_or-eq_default}
 use lib.Seq.{take_all}
-use borrow.Author.Tests.{eq-eqb, ne_eqb}
+use Rattle.std.specs.Prelude.{IfOk}
+use Rattle.number.specs.Refusal.{refusal_number}
 use Rattle.number.proofs.Table.{get_d_tabulate}
-use Rattle.text.specs.Text.{ascii, decimal, refusal_line}
+use Rattle.text.specs.Text.{ascii, decimal}
 use Rattle.text.proofs.Laws.{decimal_length, refusal_length}
 use Rattle.text.proofs.Putting.{each_few}
 use Rattle.store.specs.Log.{places}
@@ -18,34 +18,27 @@ use Rattle.figures.specs.Class.{ClassReading, Class, NoClass, read_class}
 use Rattle.figures.specs.Figures.{figures_of, class_answer, class_answers}
 use Rattle.figures.proofs.Fits.{Small, figures_small}
 use Rattle.figures.proofs.Refusals.{refusal_small}
-use Rattle.summary.specs.Types.{Figures, Answer}
+use Rattle.summary.specs.Types.{Figures}
 use Rattle.summary.specs.Summary.{number_text, line_text, party_text, party_line, parties, column_text, figures_text, class_text, summary, answer_text, longest_summary, SummaryFits}
 use Rattle.summary.proofs.Column.{parties_long}
 use Rattle.summary.proofs.Lengths.{number_long, line_long, counts_long, party_long, calls_long, mean_long, largest_long, figures_long}
 
--- An answer, by its number
-
-module _ (a : Answer) where
-  pub answer_figures : a.number ≡ 0 → answer_text a ≡ figures_text a.figures
-  answer_figures e = ap (λ b. cond b (figures_text a.figures) (refusal_line a.number a.place)) (eq-eqb a.number 0 e)
-
-  pub answer_refusal : (a.number ≡ 0 → ⊥) → answer_text a ≡ refusal_line a.number a.place
-  answer_refusal ne = ap (λ b. cond b (figures_text a.figures) (refusal_line a.number a.place)) (ne_eqb a.number 0 ne)
+-- An answer
 
 pub answer_text_lem : (file : List ℕ) → answer_text (class_answers file) ≡ summary file
-answer_text_lem file = go (read_class file) refl
+answer_text_lem file = go (read_class file)
   where
-    go : (x : ClassReading) → read_class file ≡ x → answer_text (class_answer x) ≡ class_text x
-    go (Class ss) e = refl
-    go (NoClass k place) e = answer_refusal (class_answer (NoClass k place)) (λ z. omega (arith, z, (refusal_small file k place e).0))
+    go : (x : ClassReading) → answer_text (class_answer x) ≡ class_text x
+    go (Class ss) = refl
+    go (NoClass k place) = refl
 
 -- no file has more sites than there are parties beside the coordinator
-pub answer_sites : (file : List ℕ) → (class_answers file).figures.totals.sites ≤ places
+pub answer_sites : (file : List ℕ) → IfOk (class_answers file) (λ f. f.totals.sites ≤ places)
 answer_sites file = go (read_class file) refl
   where
-    go : (x : ClassReading) → read_class file ≡ x → (class_answer x).figures.totals.sites ≤ places
+    go : (x : ClassReading) → read_class file ≡ x → IfOk (class_answer x) (λ f. f.totals.sites ≤ places)
     go (Class ss) e = (figures_small file ss e).sites
-    go (NoClass k place) e = omega arith
+    go (NoClass k place) e = tt
 
 -- Five digits are enough for every number
 
@@ -106,4 +99,5 @@ summary_fits file = go (read_class file) refl
     go (Class ss) e = figures_most (figures_of ss) (figures_small file ss e)
     go (NoClass k place) e =
         let small = refusal_small file k place e in
-        omega (arith, refusal_length k place, digits k (omega (arith, small.1)), digits place (omega (arith, small.2)))
+        let number = digits (refusal_number k) (omega (arith, small.1)) in
+        omega (arith, refusal_length (refusal_number k) place, number, digits place (omega (arith, small.2)))

@@ -1,13 +1,13 @@
 -- The summary of a class file: the text that program `class` prints. Assumes nothing.
-use Rattle.std.specs.Prelude.{cond, List, ◌++◌, ℕ, suc, ◌≤◌, eqb, length, get_or}
-use Rattle.number.specs.Refusal.{Handed, accepted}
+use Rattle.std.specs.Prelude.{List, ◌++◌, ℕ, suc, ◌≤◌, length, get_or, Result, Ok, Err}
+use Rattle.number.specs.Refusal.{Handed, refusal_number}
 use Rattle.number.specs.Table.{tabulate}
 use Rattle.text.specs.Text.{ascii, decimal, refusal_line}
 use Rattle.text.specs.Put.{each}
 use Rattle.writer.specs.Writer.{text_answer, text_left, written_hands}
 use Rattle.figures.specs.Class.{ClassReading, Class, NoClass, read_class}
 use Rattle.figures.specs.Figures.{figures_of}
-use Rattle.summary.specs.Types.{Written, Totals, Figures, Answer}
+use Rattle.summary.specs.Types.{Refused, Totals, Figures}
 
 -- a word and a number, and a line that ends so
 
@@ -57,14 +57,15 @@ figures_text f =
 -- a refusal prints its line alone
 abbrev pub class_text : ClassReading → List ℕ
 class_text (Class ss) = figures_text (figures_of ss)
-class_text (NoClass k place) = refusal_line k place
+class_text (NoClass k place) = refusal_line (refusal_number k) place
 
 abbrev pub summary : List ℕ → List ℕ
 summary file = class_text (read_class file)
 
--- as the code puts it, by the number of an answer
-abbrev pub answer_text : Answer → List ℕ
-answer_text a = cond (eqb a.number accepted) (figures_text a.figures) (refusal_line a.number a.place)
+-- as the code puts it, by the answer
+abbrev pub answer_text : Result Figures Refused → List ℕ
+answer_text (Ok f) = figures_text f
+answer_text (Err r) = refusal_line (refusal_number r.refusal) r.value
 
 -- a text of this length has room for every summary: ten numbers of at most five digits, and 33 lines of a party, whose number has at most two, with at
 -- most five. Proved in proofs/Fits.antt
@@ -77,7 +78,7 @@ SummaryFits = (file : List ℕ) → length (summary file) ≤ longest_summary
 
 -- The summary's entry: the length written, or 6 with the length needed, and then the text is as it was
 
-abbrev pub summary_answers : ℕ → List ℕ → Written
+abbrev pub summary_answers : ℕ → List ℕ → Result ℕ Refused
 summary_answers room file = text_answer room (summary file)
 
 -- what the answer hands over

@@ -1,17 +1,18 @@
 // The summary of a class file in a lent text: one figure a line, or the refusal.
 #![tactic(auto)]
 
-ghost use Rattle.std.specs.Prelude.{◌≡◌, ◌+◌, ◌≤◌, length};
+ghost use Rattle.std.specs.Prelude.{◌≡◌, ◌+◌, ◌≤◌, length, IfOk};
 ghost use Rattle.text.specs.Put.{Put};
 ghost use Rattle.store.specs.Log.{places};
 ghost use Rattle.writer.specs.Writer.{written_hands};
 ghost use Rattle.summary.specs.Summary.{number_text, line_text, counts_text, party_text, column_text, calls_text, mean_text, largest_text, figures_text, answer_text, summary_answers, summary_hands, summary_leaves};
 
-use figures::{Answer, Figures, Totals};
+use figures::{Figures, Totals};
+use number::Refused;
 use rules::PARTIES;
 use text::{put, put_decimal, put_refusal};
 use totals::class_figures;
-use writer::{Written, write_text};
+use writer::write_text;
 
 // No summary has more bytes than this.
 pub const LONGEST_SUMMARY: usize = 608;
@@ -59,10 +60,8 @@ fn put_column(text: &mut [u8], place: usize, sites: usize, column: [u32; PARTIES
     requires { (sites ≤ places) × (place + length (column_text sites column) ≤ length text.old) }
     ensures { Put text.old place (column_text sites column) result text.new }
 {
-    let parties = sites + 1;
     let mut at = place;
-    for p in 0..parties {
-        let k = column[p];
+    for (p, &k) in column[..=sites].iter().enumerate() {
         at = put_party(text, at, p, k);
     }
     at
@@ -73,10 +72,8 @@ fn put_calls(text: &mut [u8], place: usize, f: Figures) -> usize
     requires { (f.totals.sites ≤ places) × (place + length (calls_text f) ≤ length text.old) }
     ensures { Put text.old place (calls_text f) result text.new }
 {
-    let t = f.totals;
-    let column = f.column;
     let end = put_line(text, place, b"calls ", f.calls);
-    put_column(text, end, t.sites, column)
+    put_column(text, end, f.totals.sites, f.column)
 }
 
 fn put_mean(text: &mut [u8], place: usize, mean: usize, remainder: usize, schedules: usize) -> usize
@@ -100,33 +97,29 @@ fn put_figures(text: &mut [u8], f: Figures) -> usize
     requires { (f.totals.sites ≤ places) × (length (figures_text f) ≤ length text.old) }
     ensures { Put text.old 0 (figures_text f) result text.new }
 {
-    let t = f.totals;
-    let counted = put_counts(text, t);
+    let counted = put_counts(text, f.totals);
     let added = put_calls(text, counted, f);
-    let end = put_mean(text, added, f.mean, f.remainder, t.schedules);
-    put_largest(text, end, t.largest, t.first)
+    let end = put_mean(text, added, f.mean, f.remainder, f.totals.schedules);
+    put_largest(text, end, f.totals.largest, f.totals.first)
 }
 
-fn put_answer(text: &mut [u8], a: Answer) -> usize
-    requires { (a.figures.totals.sites ≤ places) × (length (answer_text a) ≤ length text.old) }
+fn put_answer(text: &mut [u8], a: Result<Figures, Refused>) -> usize
+    requires { IfOk a (λ f. f.totals.sites ≤ places) × (length (answer_text a) ≤ length text.old) }
     ensures { Put text.old 0 (answer_text a) result text.new }
 {
-    if a.number == 0 {
-        let f = a.figures;
-        put_figures(text, f)
-    } else {
-        put_refusal(text, 0, a.number, a.place)
+    match a {
+        Ok(f) => put_figures(text, f),
+        Err(refused) => put_refusal(text, 0, refused),
     }
 }
 
 // Writes the summary of a class file. Answers the length written; a text that is too short is left as it was.
-pub fn summarize(file: &[u8], text: &mut [u8]) -> Written
+pub fn summarize(file: &[u8], text: &mut [u8]) -> Result<usize, Refused>
     ensures { (result ≡ summary_answers (length text.old) file.now)
         × (written_hands result ≡ summary_hands (length text.old) file.now)
         × (text.new ≡ summary_leaves text.old file.now) }
 {
-    let answer = class_figures(file);
     let mut whole = [0u8; LONGEST_SUMMARY];
-    let length = put_answer(&mut whole, answer);
+    let length = put_answer(&mut whole, class_figures(file));
     write_text(text, &whole[..length])
 }

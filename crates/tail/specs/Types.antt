@@ -15,3 +15,4 @@ pub use Rattle.rules.specs.declared.Report.{Report}
 pub use Rattle.tail.specs.declared.ParticipantFields.{ParticipantFields}
 pub use Rattle.tail.specs.declared.Tail.{Tail}
 pub use Rattle.tail.specs.declared.single.Stepped.{Stepped}
+pub use Rattle.number.specs.declared.Refusal.{Refusal}

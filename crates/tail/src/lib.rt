@@ -19,7 +19,7 @@ use schedule::{Context, Header};
 use store::{LOGS, LogPair, LogRecord, Store};
 
 // A participant's state, heard mask, and its log's first and last record.
-#[derive(Clone, Copy)]
+#[derive(Clone, Copy, Debug, PartialEq, Eq)]
 pub struct ParticipantFields {
     pub state: u32,
     pub heard: u32,
@@ -40,17 +40,23 @@ pub struct Tail {
 }
 
 impl ParticipantFields {
+    // Those beyond n.
+    pub const ZERO: ParticipantFields = ParticipantFields {
+        state: 0,
+        heard: 0,
+        first: 0,
+        last: 0,
+    };
+
     // The fields of a participant and its log.
     fn of(participant: Participant, log: LogPair) -> ParticipantFields
         ensures { result ≡ fields_for participant log }
     {
-        let first = log.first;
-        let last = log.last;
         ParticipantFields {
             state: participant.number(),
             heard: participant.heard(),
-            first: first.number(),
-            last: last.number(),
+            first: log.first.number(),
+            last: log.last.number(),
         }
     }
 
@@ -75,33 +81,15 @@ impl ParticipantFields {
     fn records_in_range(self) -> bool
         ensures { result ≡ records_in_range self }
     {
-        if LogRecord::known(self.first) {
-            if LogRecord::known(self.last) {
-                self.pair().allowed()
-            } else {
-                false
-            }
-        } else {
-            false
-        }
+        LogRecord::try_from(self.first).is_ok()
+            && LogRecord::try_from(self.last).is_ok()
+            && self.pair().allowed()
     }
 
     fn zero(self) -> bool
         ensures { result ≡ fields_zero self }
     {
-        if self.state == 0 {
-            if self.heard == 0 {
-                if self.first == 0 {
-                    self.last == 0
-                } else {
-                    false
-                }
-            } else {
-                false
-            }
-        } else {
-            false
-        }
+        self == ParticipantFields::ZERO
     }
 
     // Whether the participant at place i among n can have these fields; `all` is the mask of all n.
@@ -110,11 +98,7 @@ impl ParticipantFields {
         ensures { result ≡ participant_in_range n i self }
     {
         if i < n {
-            if Participant::numbers_in_range(all, i, self.state, self.heard) {
-                self.records_in_range()
-            } else {
-                false
-            }
+            Participant::numbers_in_range(all, i, self.state, self.heard) && self.records_in_range()
         } else {
             self.zero()
         }
@@ -132,14 +116,11 @@ impl Tail {
     fn sites(self) -> [Site; LOGS]
         ensures { result ≡ tabulate places (λ i. site_of (fields_at self i)) }
     {
-        let participants = self.participants;
         let mut sites = [Site {
             participant: Participant::Waiting,
         }; LOGS];
         for i in 0..LOGS {
-            let fields = participants[i];
-            let site = fields.site();
-            sites[i] = site;
+            sites[i] = self.participants[i].site();
         }
         sites
     }
@@ -147,15 +128,9 @@ impl Tail {
     fn logs(self) -> [LogPair; LOGS]
         ensures { result ≡ tabulate places (λ i. pair_of (fields_at self i)) }
     {
-        let participants = self.participants;
-        let mut logs = [LogPair {
-            first: LogRecord::None,
-            last: LogRecord::None,
-        }; LOGS];
+        let mut logs = [LogPair::EMPTY; LOGS];
         for i in 0..LOGS {
-            let fields = participants[i];
-            let pair = fields.pair();
-            logs[i] = pair;
+            logs[i] = self.participants[i].pair();
         }
         logs
     }
@@ -164,7 +139,6 @@ impl Tail {
     pub fn release(self) -> Release
         ensures { result ≡ release_of self }
     {
-        let coordinator = Coordinator::of(self.state, self.heard);
         let messages = self.messages;
         let sites = self.sites();
         let logs = self.logs();
@@ -172,29 +146,20 @@ impl Tail {
         Release {
             n: self.n,
             votes: self.votes,
-            coordinator: coordinator,
-            messages: messages,
-            sites: sites,
-            store: Store { logs: logs },
-            calls: calls,
+            coordinator: Coordinator::of(self.state, self.heard),
+            messages,
+            sites,
+            store: Store { logs },
+            calls,
         }
     }
 
     fn participants_of(sites: [Site; LOGS], logs: [LogPair; LOGS]) -> [ParticipantFields; LOGS]
         ensures { result ≡ tabulate places (λ i. fields_for (participant_at sites i) (log_at logs i)) }
     {
-        let mut participants = [ParticipantFields {
-            state: 0,
-            heard: 0,
-            first: 0,
-            last: 0,
-        }; LOGS];
+        let mut participants = [ParticipantFields::ZERO; LOGS];
         for i in 0..LOGS {
-            let site = sites[i];
-            let log = logs[i];
-            let participant = site.participant;
-            let fields = ParticipantFields::of(participant, log);
-            participants[i] = fields;
+            participants[i] = ParticipantFields::of(sites[i].participant, logs[i]);
         }
         participants
     }
@@ -203,21 +168,17 @@ impl Tail {
     pub fn of(r: Release) -> Tail
         ensures { result ≡ tail_of r }
     {
-        let coordinator = r.coordinator;
         let messages = r.messages;
-        let sites = r.sites;
-        let store = r.store;
-        let logs = store.logs;
-        let participants = Tail::participants_of(sites, logs);
+        let participants = Tail::participants_of(r.sites, r.store.logs);
         let calls = r.calls;
         Tail {
             n: r.n,
             votes: r.votes,
-            state: coordinator.number(),
-            heard: coordinator.heard(),
-            messages: messages,
-            participants: participants,
-            calls: calls,
+            state: r.coordinator.number(),
+            heard: r.coordinator.heard(),
+            messages,
+            participants,
+            calls,
         }
     }
 
@@ -226,7 +187,7 @@ impl Tail {
         ensures { result ≡ header_of kind self }
     {
         Header {
-            kind: kind,
+            kind,
             n: self.n,
             votes: self.votes,
         }
@@ -236,9 +197,8 @@ impl Tail {
         requires { all ≡ full self.n }
         ensures { result ≡ messages_in_range self }
     {
-        for k in 0..TYPES {
-            let m = self.messages[k];
-            if mask::within(m, all) {} else {
+        for &m in &self.messages {
+            if !mask::within(m, all) {
                 return false;
             }
         }
@@ -251,8 +211,7 @@ impl Tail {
     {
         let n = self.n;
         for i in 0..LOGS {
-            let fields = self.participants[i];
-            if fields.in_range(n, all, i as u32) {} else {
+            if !self.participants[i].in_range(n, all, i as u32) {
                 return false;
             }
         }
@@ -264,8 +223,7 @@ impl Tail {
     {
         let n = self.n;
         for p in 0..PARTIES {
-            let k = self.calls[p];
-            if count_in_range(limit, n, p as u32, k) {} else {
+            if !count_in_range(limit, n, p as u32, self.calls[p]) {
                 return false;
             }
         }
@@ -276,11 +234,8 @@ impl Tail {
         requires { all ≡ full self.n }
         ensures { result ≡ parties_in_range self }
     {
-        if Coordinator::numbers_in_range(all, self.state, self.heard) {
-            self.participants_in_range(all)
-        } else {
-            false
-        }
+        Coordinator::numbers_in_range(all, self.state, self.heard)
+            && self.participants_in_range(all)
     }
 
     // Whether the tail of that n can hold these fields, under its header, with every count below a limit. The header has the mask of all participants:
@@ -289,18 +244,9 @@ impl Tail {
         requires { context ≡ context_of (header_of context.header.kind self) }
         ensures { result ≡ tail_in_range context.header.kind limit self }
     {
-        if context.in_range() {
-            if self.messages_in_range(context.all) {
-                if self.parties_in_range(context.all) {
-                    self.calls_in_range(limit)
-                } else {
-                    false
-                }
-            } else {
-                false
-            }
-        } else {
-            false
-        }
+        context.in_range()
+            && self.messages_in_range(context.all)
+            && self.parties_in_range(context.all)
+            && self.calls_in_range(limit)
     }
 }

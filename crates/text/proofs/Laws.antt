@@ -1,10 +1,11 @@
--- What the proofs of this crate, and of crates that lay texts out, use of the definitions: decimals digit by digit, lengths, and stores one after another.
+-- What the proofs of this crate, and of crates that lay texts out, use of the definitions: decimals digit by digit, lengths, and stores one after
+-- another.
 -- Assumes nothing.
 use mathlib.Core.Path.{◌≡◌, refl, sym, ap, ◌∙◌}
-use mathlib.Core.Bool.{Bool, true, false, cond}
+use mathlib.Core.Bool.{Bool, true, false}
 use mathlib.Core.List.{List, [], ◌∷◌, ◌++◌}
-use Prim.Native.Nat.{ℕ, zero, suc, ◌+◌, ◌*◌, ◌/◌, ◌%◌, ◌^◌, ◌≤◌, ◌<◌}
-use native.Mathlib.Nat.{pow-suc}
+use Prim.Native.Nat.{ℕ, zero, suc, ◌+◌, ◌-◌, ◌*◌, ◌/◌, ◌%◌, ◌^◌, ◌≤◌, ◌<◌}
+use native.Mathlib.Nat.{pow-suc, pow-zero}
 use native.Mathlib.Numerals.{add-one}
 use native.Mathlib.Omega.{arith}
 use lib.Dec.{ltb}
@@ -13,18 +14,6 @@ use lib.Seq.{sets, set_comm, drop-cons}
 use borrow.Author.Tests.{ltb-true, ltb-false, lt-ltb, le-ltb}
 use Rattle.number.proofs.Lists.{sets_append}
 use Rattle.text.specs.Text.{ascii, digit, digits_up_to, decimal, hexadecimal, refusal_line}
-
--- a digit's code as one sum
-pub digit_sum : (d : ℕ) → 48 + d + cond (ltb d 10) 0 39 ≡ digit d
-digit_sum d = go (ltb d 10)
-  where
-    go : (b : Bool) → 48 + d + cond b 0 39 ≡ cond b (48 + d) (87 + d)
-    go true = omega arith
-    go false = omega arith
-
-pub beyond_most : (b : Bool) → cond b 0 39 ≤ 39
-beyond_most true = omega arith
-beyond_most false = omega arith
 
 -- Decimals
 
@@ -61,9 +50,6 @@ length_few n h = ap length (decimal_few n h)
 pub length_more : (n : ℕ) → 10 ≤ n → length (decimal n) ≡ length (decimal (n / 10)) + 1
 length_more n h = ap length (decimal_more n h) ∙ length-append (decimal (n / 10)) (digit (n % 10) ∷ [])
 
-pub decimal_some : (n : ℕ) → 1 ≤ length (decimal n)
-decimal_some n = few_or_more n (λ few. omega (arith, length_few n few)) (λ more. omega (arith, length_more n more))
-
 pub decimal_length : (k n : ℕ) → 1 ≤ k → n < 10 ^ k → length (decimal n) ≤ k
 decimal_length zero n h g = absurd (omega arith)
 decimal_length (suc zero) n h g = omega (arith, length_few n g)
@@ -71,6 +57,18 @@ decimal_length (suc (suc k)) n h g =
     few_or_more n
     (λ few. omega (arith, length_few n few))
     (λ more. omega (arith, length_more n more, decimal_length (suc k) (n / 10) (omega arith) (omega (arith, pow-suc 10 (suc k)))))
+
+power_some : (k : ℕ) → 1 ≤ 10 ^ k
+power_some zero = omega (arith, pow-zero 10)
+power_some (suc k) = omega (arith, pow-suc 10 k, power_some k)
+
+-- one more than the greatest power of ten that is not above the number
+pub power_length : (k n : ℕ) → 10 ^ k ≤ n → n < 10 * 10 ^ k → length (decimal n) ≡ k + 1
+power_length zero n h g = omega (arith, pow-zero 10, length_few n)
+power_length (suc k) n h g =
+    let s : 10 ^ suc k ≡ 10 * 10 ^ k = omega (arith, pow-suc 10 k) in
+    let more : 10 ≤ n = omega (arith, power_some k) in
+    omega (arith, length_more n more, power_length k (n / 10) (omega arith) (omega arith))
 
 pub hexadecimal_length : (bytes : List ℕ) → length (hexadecimal bytes) ≡ 2 * length bytes
 unfolding hexadecimal
@@ -89,6 +87,30 @@ refusal_length k place =
       length-append (decimal place) (ascii "\n"),
     )
 
+-- As many digits as are asked for, the last one last
+
+abbrev pub last_digits : ℕ → ℕ → List ℕ
+last_digits zero n = []
+last_digits (suc k) n = last_digits k (n / 10) ++ (digit (n % 10) ∷ [])
+
+last_digits_length : (k n : ℕ) → length (last_digits k n) ≡ k
+last_digits_length zero n = refl
+last_digits_length (suc k) n = length-append (last_digits k (n / 10)) (digit (n % 10) ∷ []) ∙ omega (arith, last_digits_length k (n / 10))
+
+digits_below : (most n : ℕ) → n < most → last_digits (length (decimal n)) n ≡ decimal n
+digits_below zero n h = absurd (omega arith)
+digits_below (suc most) n h =
+    few_or_more n
+    (λ few.
+    let same : n % 10 ≡ n = omega arith in
+    ap (λ k. last_digits k n) (length_few n few) ∙ ap (λ d. digit d ∷ []) same ∙ sym (decimal_few n few))
+    (λ more.
+    let long : length (decimal n) ≡ suc (length (decimal (n / 10))) = omega (arith, length_more n more) in
+    ap (λ k. last_digits k n) long ∙ ap (λ l. l ++ (digit (n % 10) ∷ [])) (digits_below most (n / 10) (omega arith)) ∙ sym (decimal_more n more))
+
+pub all_digits : (n : ℕ) → last_digits (length (decimal n)) n ≡ decimal n
+all_digits n = digits_below (suc n) n (omega arith)
+
 -- Stores
 
 -- a store behind a text may come before it
@@ -99,12 +121,6 @@ sets_behind l i (y ∷ xs) j x h =
 
 -- One turn of each loop: what is put, and then what is left, is what was left
 
-pub next_byte : (text bytes : List ℕ) (place i : ℕ) → i < length bytes
-    → sets (set text (place + i) (get_or bytes i 0)) (place + (i + 1)) (drop (i + 1) bytes) ≡ sets text (place + i) (drop i bytes)
-next_byte text bytes place i h =
-    let e : place + (i + 1) ≡ suc (place + i) = omega arith in
-    rw (e, add-one i, drop-cons bytes i 0)
-
 pub next_pair : (text bytes : List ℕ) (place i : ℕ) → i < length bytes
     → sets (set (set text place (digit (get_or bytes i 0 / 16))) (place + 1) (digit (get_or bytes i 0 % 16))) (place + 2) (hexadecimal (drop (i + 1) bytes))
     ≡ sets text place (hexadecimal (drop i bytes))
@@ -113,10 +129,13 @@ next_pair text bytes place i h =
     let e : place + 2 ≡ suc (suc place) = omega arith in
     rw (e, add-one place, add-one i, drop-cons bytes i 0)
 
-pub last_digit : (text : List ℕ) (place n : ℕ) → 10 ≤ n
-    → sets (set text (place + length (decimal (n / 10))) (digit (n % 10))) place (decimal (n / 10)) ≡ sets text place (decimal n)
-last_digit text place n h =
-    let front : List ℕ = decimal (n / 10) in
-    sets_behind text place front (place + length front) (digit (n % 10)) (omega arith)
+pub last_digit : (text : List ℕ) (place at end n : ℕ) → place ≤ at → at + 1 ≡ end
+    → sets (set text at (digit (n % 10))) place (last_digits (at - place) (n / 10)) ≡ sets text place (last_digits (end - place) n)
+last_digit text place at end n h e =
+    let front : List ℕ = last_digits (at - place) (n / 10) in
+    let here : at ≡ place + length front = omega (arith, last_digits_length (at - place) (n / 10)) in
+    let more : end - place ≡ suc (at - place) = omega arith in
+    sets_behind text place front at (digit (n % 10)) (omega arith)
+    ∙ ap (λ i. set (sets text place front) i (digit (n % 10))) here
     ∙ sym (sets_append text place front (digit (n % 10) ∷ []))
-    ∙ ap (sets text place) (sym (decimal_more n h))
+    ∙ sym (ap (λ k. sets text place (last_digits k n)) more)

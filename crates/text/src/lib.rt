@@ -2,20 +2,20 @@
 #![tactic(auto)]
 
 ghost use Rattle.std.specs.Prelude.{◌≡◌, cond, ◌+◌, ◌≤◌, ◌<◌, ltb, length};
+ghost use Rattle.number.specs.Refusal.{refusal_number};
 ghost use Rattle.text.specs.Put.{Put};
 ghost use Rattle.text.specs.Text.{digit, decimal, hexadecimal, refusal_line};
+
+use number::Refused;
 
 // These bytes as they are.
 pub fn put(text: &mut [u8], place: usize, bytes: &[u8]) -> usize
     requires { place + length bytes.now ≤ length text.old }
     ensures { Put text.old place bytes.now result text.new }
 {
-    let mut i: usize = 0;
-    while i < bytes.len() {
-        text[place + i] = bytes[i];
-        i = i + 1;
-    }
-    place + i
+    let end = place + bytes.len();
+    text[place..end].copy_from_slice(bytes);
+    end
 }
 
 // How much further than the digits the letters stand.
@@ -34,16 +34,11 @@ fn digit(d: u8) -> u8
 }
 
 // How many digits n has in decimal.
+#[tactic(auto, using(crate::proofs::Laws::power_length, crate::proofs::Laws::length_few))]
 pub fn decimal_length(n: usize) -> usize
     ensures { result ≡ length (decimal n) }
 {
-    let mut rest = n;
-    let mut digits: usize = 1;
-    while 10 <= rest {
-        rest = rest / 10;
-        digits = digits + 1;
-    }
-    digits
+    n.checked_ilog10().map_or(1, |k| k as usize + 1)
 }
 
 // The number in decimal.
@@ -53,13 +48,10 @@ pub fn put_decimal(text: &mut [u8], place: usize, n: usize) -> usize
 {
     let end = place + decimal_length(n);
     let mut rest = n;
-    let mut at = end;
-    while 10 <= rest {
-        at = at - 1;
+    for at in (place..end).rev() {
         text[at] = digit((rest % 10) as u8);
-        rest = rest / 10;
+        rest /= 10;
     }
-    text[place] = digit(rest as u8);
     end
 }
 
@@ -69,25 +61,22 @@ pub fn put_hexadecimal(text: &mut [u8], place: usize, bytes: &[u8]) -> usize
     ensures { Put text.old place (hexadecimal bytes.now) result text.new }
 {
     let mut at = place;
-    let mut i: usize = 0;
-    while i < bytes.len() {
-        let b = bytes[i];
+    for &b in bytes {
         text[at] = digit(b / 16);
         text[at + 1] = digit(b % 16);
-        at = at + 2;
-        i = i + 1;
+        at += 2;
     }
     at
 }
 
-// The line of a refusal, by its number and its place or length.
-pub fn put_refusal(text: &mut [u8], place: usize, k: u32, at: usize) -> usize
-    requires { place + length (refusal_line k at) ≤ length text.old }
-    ensures { Put text.old place (refusal_line k at) result text.new }
+// The line of a refusal.
+pub fn put_refusal(text: &mut [u8], place: usize, refused: Refused) -> usize
+    requires { place + length (refusal_line (refusal_number refused.refusal) refused.value) ≤ length text.old }
+    ensures { Put text.old place (refusal_line (refusal_number refused.refusal) refused.value) result text.new }
 {
     let number = put(text, place, b"refused ");
-    let middle = put_decimal(text, number, k as usize);
+    let middle = put_decimal(text, number, refused.refusal.number() as usize);
     let value = put(text, middle, b" at ");
-    let end = put_decimal(text, value, at);
+    let end = put_decimal(text, value, refused.value);
     put(text, end, b"\n")
 }

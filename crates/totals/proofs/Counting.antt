@@ -8,6 +8,8 @@ use native.Mathlib.Omega.{arith}
 use lib.Dec.{eqb, ltb}
 use lib.ListN.{length, get_or, take, drop, length-append, length-drop, length-map, drop_of_length-le}
 use lib.Seq.{drop-cons, drop-drop, length-take-le}
+use Rattle.std.specs.Prelude.{Ok, Err}
+use Rattle.number.specs.Refusal as number
 use Rattle.number.specs.Table.{tabulate}
 use Rattle.store.specs.Log.{places}
 use Rattle.schedule.specs.Record.{longest}
@@ -25,8 +27,8 @@ use Rattle.figures.proofs.Single.{schedule_most, read_whole}
 use Rattle.figures.proofs.Kept.{read_parts_lem}
 use Rattle.figures.proofs.Column.{column_total}
 use Rattle.figures.proofs.Fits.{count_few, entry_few}
-use Rattle.totals.specs.Types.{Context, Outcome, Validated, Totals}
-use Rattle.totals.specs.Adding.{schedule_of, schedule_added, calls_added, Room, Entries, RefusedNear}
+use Rattle.totals.specs.Types.{Context, Outcome, Refusal, Totals}
+use Rattle.totals.specs.Adding.{schedule_of, schedule_added, calls_added, Room, Entries}
 use Rattle.totals.proofs.Run.{accepted}
 
 -- One schedule more
@@ -168,14 +170,14 @@ module _ {file : List ℕ} {t : Totals} {column : List ℕ} {at : ℕ} (g : Coun
     read_first : (x : Reading) → read_schedule part ≡ x → read_parts 0 (parts file) ≡ before g.done (part_then at x (read_parts (at + size) (parts (drop (at + size) file))))
     read_first x e = g.reads ∙ ap (before g.done) (first ∙ ap (λ (y : Reading). part_then at y (read_parts (at + size) (parts (drop (at + size) file)))) e)
 
-    pub stops : (k place : ℕ) → validated (read_schedule part) ≡ Validated.Refused k place
-        → RefusedNear at (Validated.Refused k place) × (refused_with k (at + place) ≡ class_answer (read_parts 0 (parts file)))
+    pub stops : (k : Refusal) (place : ℕ) → validated (read_schedule part) ≡ Err (number.refused k place)
+        → (at + place ≤ longest + longest) × (refused_with k (at + place) ≡ class_answer (read_parts 0 (parts file)))
     stops k place v =
         let e = refused (read_schedule part) k place v in
         let near = (subst (SaysWhole part) e (read_says part)).near in
         (omega (arith, near, more, g.short), sym (ap class_answer (read_first (Refused k place) e)))
 
-    module _ (c : Context) (m : ℕ) (v : validated (read_schedule part) ≡ Validated.Steps c m) where
+    module _ (c : Context) (m : ℕ) (v : validated (read_schedule part) ≡ Ok (c, m)) where
       abbrev this : Schedule
       this = schedule_of c part
 

@@ -6,6 +6,7 @@ use Prim.Native.Nat.{ℕ, suc, ◌+◌, ◌≤◌, ◌<◌}
 use native.Mathlib.Omega.{arith}
 use lib.ListN.{length, get_or, take, drop, length-drop}
 use lib.Seq.{sets, sets-eq, take_at, take_all}
+use Rattle.std.specs.Prelude.{Ok}
 use Rattle.number.specs.Table.{tabulate}
 use Rattle.number.proofs.Table.{length_tabulate, get_d_tabulate, tabulate_list}
 use Rattle.store.specs.Log.{places}
@@ -24,10 +25,10 @@ use Rattle.figures.specs.Figures.{steps_reported, said_in, reports, calls_of, ca
 use Rattle.figures.specs.Promises.{due_calls}
 use Rattle.figures.proofs.Sums.{table_same, each_le_sum}
 use Rattle.figures.proofs.Single.{steps_are, calls_by_rules, read_whole, schedule_most}
-use Rattle.totals.specs.Types.{Store, Step, Context, Outcome, Release, Validated, Totals}
+use Rattle.totals.specs.Types.{Store, Step, Context, Outcome, Release, Totals}
 use Rattle.totals.specs.Adding.{one_added, schedule_of, schedule_added, calls_added, Entries}
 
-module _ (part : List ℕ) (c : Context) (m : ℕ) (v : validated (read_schedule part) ≡ Validated.Steps c m) where
+module _ (part : List ℕ) (c : Context) (m : ℕ) (v : validated (read_schedule part) ≡ Ok (c, m)) where
   abbrev s : Schedule
   s = schedule_of c part
 

@@ -7,8 +7,8 @@ use Rattle.schedule.specs.Schedule.{read_schedule}
 use Rattle.passes.specs.Pass.{steps_of}
 use Rattle.figures.specs.Class.{Schedule}
 use Rattle.figures.specs.Sums.{larger}
-use Rattle.figures.specs.Figures.{reports, calls_in, sites_of, refused_with}
-use Rattle.totals.specs.Types.{Context, Outcome, Validated, Totals, Answer}
+use Rattle.figures.specs.Figures.{reports, calls_in, sites_of}
+use Rattle.totals.specs.Types.{Context, Outcome, Totals}
 
 abbrev pub one_more : ℕ → Bool → ℕ
 one_more k b = k + cond b 1 0
@@ -52,13 +52,3 @@ pub record Room (t : Totals) : Type 0 where
 pub record Entries (calls : List ℕ) : Type 0 where
   pub parties : length calls ≡ suc places
   pub few : (p : ℕ) → get_or calls p 0 ≤ longest
-
--- a refusal of the schedule that begins at a place; and its place is a number that the file can have
-
-abbrev pub refused_from : ℕ → Validated → Answer
-refused_from at (Validated.Steps c count) = refused_with 0 at
-refused_from at (Validated.Refused k place) = refused_with k (at + place)
-
-abbrev pub RefusedNear : ℕ → Validated → Type 0
-RefusedNear at (Validated.Steps c count) = Unit {0}
-RefusedNear at (Validated.Refused k place) = at + place ≤ longest + longest

@@ -2,21 +2,20 @@
 // as a single one is.
 #![tactic(auto)]
 
-ghost use Rattle.std.specs.Prelude.{◌≡◌, not, ◌&&◌, ◌≤◌, ◌<◌, length, get_or};
+ghost use Rattle.std.specs.Prelude.{◌≡◌, ◌≤◌, ◌<◌, length, get_or, Ok};
 ghost use Rattle.std.proofs.lemmas.List.Edits.{sets};
 ghost use Rattle.schedule.specs.Record.{longest};
 ghost use Rattle.schedule.specs.Schedule.{read_schedule};
 ghost use Rattle.passes.specs.Pass.{validated};
-ghost use Rattle.figures.specs.Sums.{sum, larger};
-ghost use Rattle.figures.specs.Figures.{steps_reported, says, said_in, calls_of, calls_in as callsReported, no_totals, with_mean, refused_with, class_answers};
-ghost use Rattle.totals.specs.Types.{Validated};
-ghost use Rattle.totals.specs.Adding.{one_more, first_after, one_added, schedule_of, schedule_added, calls_added, refused_from, RefusedNear, Room, Entries};
+ghost use Rattle.figures.specs.Sums.{sum};
+ghost use Rattle.figures.specs.Figures.{steps_reported, says, said_in, calls_of, calls_in as callsReported, with_mean, class_answers};
+ghost use Rattle.totals.specs.Adding.{first_after, one_added, schedule_of, schedule_added, calls_added, Room, Entries};
 
 use effect::outcome::report_byte;
-use figures::{Answer, Figures, Totals};
-use number::EMPTY_OR_TOO_LONG;
+use figures::{Figures, Totals};
+use number::{Refusal, Refused};
 use parts::schedule_end;
-use passes::{Validated, first_step, run_steps, validate};
+use passes::{first_step, run_steps, validate};
 use rules::{CLOSED, Outcome, PARTIES};
 use schedule::{Context, LONGEST};
 use state::{COUNTS, fresh};
@@ -29,17 +28,14 @@ fn says(o: Outcome, byte: u8) -> bool
     byte % CLOSED == report_byte(o, false)
 }
 
-// Whether some of them does. All are looked at, so that the compiler looks at many at once.
+// Whether some of them does. All are looked at, and `any` not used, so that the compiler looks at many at once.
+#[tactic(auto, using(crate::proofs::Bytes::said_next, crate::proofs::Bytes::said_all))]
 fn said(bytes: &[u8], o: Outcome) -> bool
     ensures { result ≡ said_in o bytes.now }
 {
     let mut found = false;
-    let mut i: usize = 0;
-    while i < bytes.len() {
-        if says(o, bytes[i]) {
-            found = true;
-        }
-        i = i + 1;
+    for &b in bytes {
+        found |= says(o, b);
     }
     found
 }
@@ -49,12 +45,7 @@ fn sum_of(calls: &[u32]) -> usize
     requires { Entries calls.now }
     ensures { result ≡ sum calls.now }
 {
-    let mut total: u32 = 0;
-    let mut p: usize = 0;
-    while p < calls.len() {
-        total = total + calls[p];
-        p = p + 1;
-    }
+    let total: u32 = calls.iter().sum();
     total as usize
 }
 
@@ -63,8 +54,8 @@ fn add_calls(column: &mut [u32; PARTIES], calls: &[u32])
     requires { Entries column.old × Entries calls.now }
     ensures { column.new ≡ calls_added column.old (λ p. get_or calls.now p 0) }
 {
-    for p in 0..PARTIES {
-        column[p] = column[p] + calls[p];
+    for (p, &k) in calls.iter().enumerate() {
+        column[p] += k;
     }
 }
 
@@ -76,17 +67,16 @@ fn run_schedule(
     column: &mut [u32; PARTIES],
     bytes: &mut [u8],
 ) -> usize
-    requires { (validated (read_schedule part.now) ≡ Validated.Steps context steps) × (longest ≤ length bytes.old) × Entries column.old }
+    requires { (validated (read_schedule part.now) ≡ Ok (context, steps)) × (longest ≤ length bytes.old) × Entries column.old }
     ensures { (result ≡ callsReported (schedule_of context part.now))
         × (column.new ≡ calls_added column.old (calls_of (schedule_of context part.now)))
         × (bytes.new ≡ sets bytes.old 0 (steps_reported (schedule_of context part.now))) }
 {
     let header = context.header;
-    let start = first_step(header);
     let mut numbers = fresh(header.n, header.votes);
     run_steps(
         part,
-        start,
+        first_step(header),
         context,
         steps,
         &mut numbers,
@@ -97,40 +87,6 @@ fn run_schedule(
     sum_of(&numbers[COUNTS..])
 }
 
-fn one_more(k: usize, b: bool) -> usize
-    requires { k ≤ longest }
-    ensures { result ≡ one_more k b }
-{
-    if b { k + 1 } else { k }
-}
-
-fn larger(a: usize, b: usize) -> usize
-    ensures { result ≡ larger a b }
-{
-    if a < b { b } else { a }
-}
-
-fn neither(commit: bool, abort: bool) -> bool
-    ensures { result ≡ not commit && not abort }
-{
-    if commit { false } else { !abort }
-}
-
-// The totals of no schedule.
-fn none() -> Totals
-    ensures { result ≡ no_totals }
-{
-    Totals {
-        schedules: 0,
-        commit: 0,
-        abort: 0,
-        neither: 0,
-        largest: 0,
-        first: 0,
-        sites: 0,
-    }
-}
-
 // Which schedule is the first with the largest number of calls, after one more with so many.
 fn first_after(t: Totals, calls: usize) -> usize
     requires { t.schedules ≤ longest }
@@ -138,12 +94,10 @@ fn first_after(t: Totals, calls: usize) -> usize
 {
     if t.schedules == 0 {
         1
+    } else if t.largest < calls {
+        t.schedules + 1
     } else {
-        if t.largest < calls {
-            t.schedules + 1
-        } else {
-            t.first
-        }
+        t.first
     }
 }
 
@@ -154,12 +108,12 @@ fn with_one(t: Totals, n: usize, commit: bool, abort: bool, calls: usize) -> Tot
 {
     Totals {
         schedules: t.schedules + 1,
-        commit: one_more(t.commit, commit),
-        abort: one_more(t.abort, abort),
-        neither: one_more(t.neither, neither(commit, abort)),
-        largest: larger(t.largest, calls),
+        commit: t.commit + usize::from(commit),
+        abort: t.abort + usize::from(abort),
+        neither: t.neither + usize::from(!commit && !abort),
+        largest: t.largest.max(calls),
         first: first_after(t, calls),
-        sites: larger(t.sites, n),
+        sites: t.sites.max(n),
     }
 }
 
@@ -173,19 +127,23 @@ fn with_schedule(
     column: &mut [u32; PARTIES],
     bytes: &mut [u8],
 ) -> Totals
-    requires { (validated (read_schedule part.now) ≡ Validated.Steps context steps) × (longest ≤ length bytes.old) × Room t × Entries column.old }
+    requires { (validated (read_schedule part.now) ≡ Ok (context, steps)) × (longest ≤ length bytes.old) × Room t × Entries column.old }
     ensures { (result ≡ schedule_added t (schedule_of context part.now))
         × (column.new ≡ calls_added column.old (calls_of (schedule_of context part.now))) }
 {
-    let header = context.header;
-    let n = header.n as usize;
+    let n = context.header.n as usize;
     if steps == 0 {
         return with_one(t, n, false, false, 0);
     }
     let calls = run_schedule(part, context, steps, column, bytes);
-    let commit = said(&bytes[..steps], Outcome::Commit);
-    let abort = said(&bytes[..steps], Outcome::Abort);
-    with_one(t, n, commit, abort, calls)
+    let report = &bytes[..steps];
+    with_one(
+        t,
+        n,
+        said(report, Outcome::Commit),
+        said(report, Outcome::Abort),
+        calls,
+    )
 }
 
 // The totals and the column, with all calls, which are added from the column, and their mean.
@@ -196,75 +154,33 @@ fn with_mean(t: Totals, column: [u32; PARTIES]) -> Figures
     let calls = sum_of(&column);
     Figures {
         totals: t,
-        column: column,
-        calls: calls,
+        column,
+        calls,
         mean: calls / t.schedules,
         remainder: calls % t.schedules,
     }
 }
 
-// A refusal, without figures.
-fn refused(k: u32, place: usize) -> Answer
-    ensures { result ≡ refused_with k place }
-{
-    let totals = none();
-    Answer {
-        number: k,
-        place: place,
-        figures: Figures {
-            totals: totals,
-            column: [0u32; PARTIES],
-            calls: 0,
-            mean: 0,
-            remainder: 0,
-        },
-    }
-}
-
-// The refusal of the schedule that begins at a place.
-fn refused_from(at: usize, first: Validated) -> Answer
-    requires { RefusedNear at first }
-    ensures { result ≡ refused_from at first }
-{
-    match first {
-        Validated::Steps(_, _) => refused(0, at),
-        Validated::Refused(k, place) => refused(k, at + place),
-    }
-}
-
 // The figures of a class file. A schedule ends where the next header begins.
-pub fn class_figures(file: &[u8]) -> Answer
+pub fn class_figures(file: &[u8]) -> Result<Figures, Refused>
     ensures { result ≡ class_answers file.now }
 {
-    if LONGEST < file.len() {
-        return refused(EMPTY_OR_TOO_LONG, 0);
-    }
-    if file.len() == 0 {
-        return refused(EMPTY_OR_TOO_LONG, 0);
+    if LONGEST < file.len() || file.is_empty() {
+        return Err(Refusal::EmptyOrTooLong.into());
     }
     let mut bytes = [0u8; LONGEST];
     let mut column = [0u32; PARTIES];
-    let mut totals = none();
-    let mut at: usize = 0;
+    let mut totals = Totals::default();
+    let mut at = 0;
     while at < file.len() {
         let end = schedule_end(file, at);
-        let first = validate(&file[at..end]);
-        let Validated::Steps(context, steps) = first else {
-            return refused_from(at, first);
-        };
-        totals = with_schedule(
-            totals,
-            &file[at..end],
-            context,
-            steps,
-            &mut column,
-            &mut bytes,
-        );
+        let part = &file[at..end];
+        let (context, steps) = validate(part).map_err(|refused| Refused {
+            refusal: refused.refusal,
+            value: at + refused.value,
+        })?;
+        totals = with_schedule(totals, part, context, steps, &mut column, &mut bytes);
         at = end;
     }
-    Answer {
-        number: 0,
-        place: 0,
-        figures: with_mean(totals, column),
-    }
+    Ok(with_mean(totals, column))
 }

@@ -7,9 +7,10 @@ use native.Mathlib.Omega.{arith}
 use native.Mathlib.Nat.{add-zero, zero-add}
 use lib.ListN.{length, take, drop}
 use lib.Seq.{sets, sets-eq, length-sets, length-take-le, take_at, drop_at}
+use Rattle.std.specs.Prelude.{Option, Some, None, Result, Ok}
 use Rattle.number.proofs.Lists.{sets_append}
 use Rattle.kind.specs.Step.{AllInRange}
-use Rattle.writer.specs.Types.{Step, Header, Record, Before, Written}
+use Rattle.writer.specs.Types.{Step, Header, Record, Refused}
 use Rattle.schedule.specs.Record.{header_record, step_record, header_in_range, record_length, record_bytes, longest}
 use Rattle.schedule.specs.Reader.{reader_answers}
 use Rattle.schedule.specs.Schedule.{steps_bytes, schedule_bytes}
@@ -38,16 +39,16 @@ write_after_read bytes b before r l e buffer place near room =
     let w = written buffer place before r y.follows near (subst (λ n. place + n ≤ length buffer) y.size room) in
     let same : take l bytes ≡ record_bytes r =
     ap (take l) (y.front b) ∙ take_at (record_bytes r) (drop l bytes) l (record_length_lem r ∙ sym y.size) in
-    (w.0 ∙ ap (λ n. Written.Done (place + n)) (sym y.size), w.1 ∙ ap (sets buffer place) (sym same))
+    (w.0 ∙ ap (λ n. Ok (place + n)) (sym y.size), w.1 ∙ ap (sets buffer place) (sym same))
 
 -- A whole schedule through the writer
 
 -- all of the records are taken, and their bytes stand from a place on
 abbrev AllWritten : List ℕ → ℕ → List Record → List ℕ → Type 0
-AllWritten buffer place rs bytes = written_in_turn rs (Written.Done place) buffer ≡ (Written.Done (place + length bytes), sets buffer place bytes)
+AllWritten buffer place rs bytes = written_in_turn rs (Ok place) buffer ≡ (Ok (place + length bytes), sets buffer place bytes)
 
 -- one record, and then the others
-turn : (buffer : List ℕ) (place : ℕ) (before : Before) (r : Record) (rs : List Record) (rest : List ℕ) → may_follow before r ≡ true
+turn : (buffer : List ℕ) (place : ℕ) (before : Option Header) (r : Record) (rs : List Record) (rest : List ℕ) → may_follow before r ≡ true
     → place + length (record_bytes r ++ rest) ≤ longest → place + length (record_bytes r ++ rest) ≤ length buffer
     → ((buffer : List ℕ) → place + record_length r + length rest ≤ length buffer → AllWritten buffer (place + record_length r) rs rest)
     → AllWritten buffer place (r ∷ rs) (record_bytes r ++ rest)
@@ -56,9 +57,9 @@ turn buffer place before r rs rest q near room next =
     let w = written buffer place before r q (omega arith) (omega arith) in
     let put : List ℕ = sets buffer place (record_bytes r) in
     let end : place + record_length r + length rest ≡ place + length (record_bytes r ++ rest) = omega arith in
-    ap₂ (λ (x : Written) (b : List ℕ). written_in_turn rs x b) w.0 w.1
+    ap₂ (λ (x : Result ℕ Refused) (b : List ℕ). written_in_turn rs x b) w.0 w.1
     ∙ next put (omega (arith, length-sets buffer place (record_bytes r)))
-    ∙ ap₂ (λ (n : ℕ) (b : List ℕ). (Written.Done n, b)) end
+    ∙ ap₂ (λ (n : ℕ) (b : List ℕ). (Ok n, b)) end
     (ap (λ n. sets put (place + n) rest) (sym (record_length_lem r)) ∙ sym (sets_append buffer place (record_bytes r) rest))
 
 steps_in_turn : (h : Header) → header_in_range h ≡ true → (steps : List Step) → AllInRange h.n steps → (buffer : List ℕ) (place : ℕ)
@@ -68,12 +69,12 @@ steps_in_turn h g [] q buffer place near room = rw (add-zero place) refl
 steps_in_turn h g (s ∷ ss) q buffer place near room =
     let r : Record = step_record s in
     let size = front_length r (steps_bytes ss) in
-    turn buffer place (Before.Header h) r (map step_record ss) (steps_bytes ss) (step_follows h s g q.0) near room
+    turn buffer place (Some h) r (map step_record ss) (steps_bytes ss) (step_follows h s g q.0) near room
     (λ b enough. steps_in_turn h g ss q.1 b (place + record_length r) (omega arith) enough)
 
 pub written_in_turn_lem : WrittenInTurn
 written_in_turn_lem buffer h steps g q near room =
     let bytes : List ℕ = schedule_bytes h steps in
-    turn buffer 0 Before.Nothing (header_record h) (map step_record steps) (steps_bytes steps) (header_follows h g) (omega arith) (omega arith)
+    turn buffer 0 None (header_record h) (map step_record steps) (steps_bytes steps) (header_follows h g) (omega arith) (omega arith)
     (λ b enough. steps_in_turn h g steps q b (0 + record_length (header_record h)) (omega (arith, front_length (header_record h) (steps_bytes steps))) enough)
-    ∙ ap (λ n. (Written.Done n, sets buffer 0 bytes)) (zero-add (length bytes))
+    ∙ ap (λ n. (Ok n, sets buffer 0 bytes)) (zero-add (length bytes))

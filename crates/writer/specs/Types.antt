@@ -1,8 +1,7 @@
--- The declared type of the writer's answer, and those of the layers below that it speaks of.
+-- The declared types of the layers below that the writer speaks of.
 pub use Rattle.kind.specs.declared.Kind.{Kind}
 pub use Rattle.kind.specs.declared.Step.{Step}
 pub use Rattle.schedule.specs.declared.Header.{Header}
 pub use Rattle.schedule.specs.declared.Record.{Record}
-pub use Rattle.schedule.specs.declared.reader.Before.{Before}
-pub use Rattle.schedule.specs.declared.reader.Read.{Read}
-pub use Rattle.writer.specs.declared.Written.{Written}
+pub use Rattle.number.specs.declared.Refusal.{Refusal}
+pub use Rattle.number.specs.declared.Refused.{Refused}

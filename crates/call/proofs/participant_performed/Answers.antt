@@ -4,5 +4,5 @@ use Rattle.rules.specs.Step.{participant_answered}
 use Rattle.call.proofs.Calling.{reads_called}
 use Rattle.call.proofs.participant_performed.Goals as goal
 
-pub returns-in-Done : goal.returns-in-Done
-returns-in-Done c = rw c.in-Done.is (reads_called _ c.args.i _ _ _ c.requires.0 (λ all v d p x. participant_answered c.args.heard c.args.i c.args.j c.in-Done.done (Participant.on_answer all c.args.i p c.args.j c.in-Done.done.answer)) c.args.j _ _ _ ((rw (c.answer.ensures, c.requires.3) at c.participant_answered.ensures) c.args.all))
+pub returns-in-Some : goal.returns-in-Some
+returns-in-Some c = rw c.in-Some.is (reads_called _ c.args.i _ _ _ c.requires.0 (λ all v d p x. participant_answered c.args.heard c.args.i c.args.j c.in-Some.done (Participant.on_answer all c.args.i p c.args.j c.in-Some.done.answer)) c.args.j _ _ _ ((rw (c.answer.ensures, c.requires.3) at c.participant_answered.ensures) c.args.all))

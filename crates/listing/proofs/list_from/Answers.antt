@@ -1,29 +1,48 @@
 -- `listing::list_from` meets its contract: the listing of steps from a tail, or the refusal's line. Assumes nothing.
-use mathlib.Core.Path.{◌≡◌, ap, ◌∙◌}
+use mathlib.Core.Path.{◌≡◌, sym, ap, ◌∙◌}
 use mathlib.Core.List.{List}
 use Prim.Native.Nat.{ℕ}
-use lib.ListN.{length}
-use Rattle.writer.specs.Writer.{text_answer, text_left, written_hands}
 use Rattle.kind.specs.declared.Kind.{Kind}
 use Rattle.state.specs.Fields.{release_in}
-use Rattle.passes.specs.Pass.{validated, reading_from}
+use Rattle.passes.specs.Pass.{reading_from}
+use Rattle.passes.proofs.Passed.{counted}
 use Rattle.start.specs.declared.Start.{Start}
-use Rattle.start.specs.Start.{start_release, read_under, read_from, StartOf}
-use Rattle.start.proofs.Begun.{steps_from_lem, was_read, at_once, start_back, started}
-use Rattle.listing.specs.Types.{Context, Validated}
+use Rattle.start.specs.Start.{start_release, read_from}
+use Rattle.start.proofs.Begun.{BegunFrom, begun_from, refused_from}
+use Rattle.start.proofs.Kept.{rest_bytes_kept}
 use Rattle.listing.specs.Listing.{reading_text, listing_from}
-use Rattle.listing.proofs.Listed.{text_from}
+use Rattle.start.proofs.Answered.{start_context}
+use Rattle.listing.proofs.Listed.{text_from, same_text}
 use Rattle.listing.proofs.list_from.Goals as goal
 
 -- the text of a run from the start of a tail is its listing
-from_tail : {tail : List ℕ} {s : Start} (from : StartOf Kind.WideHeader tail s) (bytes : List ℕ) {y : Validated} (e : y ≡ validated (read_under s.refusal s.context.header bytes)) (c : Context) (m : ℕ)
-    (d : y ≡ Validated.Steps c m) → reading_text (λ _. release_in s.numbers s.store) (reading_from bytes c.header 0) ≡ listing_from tail bytes
-from_tail {tail = tail} {s = s} from bytes e c m d =
-    ap (reading_text (λ _. release_in s.numbers s.store)) (at_once from bytes e c m d)
-    ∙ text_from (λ _. start_release tail) (read_from tail bytes) c m (steps_from_lem from bytes e c m d) _ (start_back from bytes e c m d)
+from_tail : (tail bytes : List ℕ) (s : Start) (m : ℕ) → BegunFrom tail bytes s m
+    → reading_text (λ _. release_in s.numbers s.store) (reading_from bytes s.context.header 0) ≡ listing_from tail bytes
+from_tail tail bytes s m b =
+    ap (reading_text (λ _. release_in s.numbers s.store)) b.at_once
+    ∙ text_from (λ _. start_release tail) (read_from tail bytes) s.context m b.steps _ b.start_back
+
+pub validate_from-requires : goal.validate_from-requires
+validate_from-requires c = λ s e. start_context Kind.WideHeader c.args.tail.now s (sym c.read_start.ensures ∙ e)
 
 pub list_steps-requires : goal.list_steps-requires
-list_steps-requires c = let rest = c.args.rest.now in let from = c.read_start-start.ensures in let valid = c.validate_from-first.ensures in (started from rest valid c.in-Steps.context c.in-Steps.steps c.in-Steps.is, (was_read from rest valid c.in-Steps.context c.in-Steps.steps c.in-Steps.is).short)
+list_steps-requires c =
+    let tail = c.args.tail.now in
+    let rest = c.args.rest.now in
+    let b = begun_from tail rest (rw c.read_start.ensures at c.validate_from.ensures) c.in-Ok.start c.in-Ok.steps c.in-Ok.is in
+    let x = counted (read_from tail rest) c.in-Ok.start.context c.in-Ok.steps b.steps in
+    (b.ready, (rest_bytes_kept tail rest c.in-Ok.start.context.header _ x.accepted).short)
 
-pub returns-in-Steps : goal.returns-in-Steps
-returns-in-Steps c = let args = c.args in let listed = c.list_steps.ensures in let same = from_tail c.read_start-start.ensures args.rest.now c.validate_from-first.ensures c.in-Steps.context c.in-Steps.steps c.in-Steps.is in let answer = listed.0 ∙ ap (text_answer (length args.text.now)) same in (answer, ap written_hands answer, listed.1 ∙ ap (text_left args.text.now) same)
+pub returns-in-Ok : goal.returns-in-Ok
+returns-in-Ok c =
+    let tail = c.args.tail.now in
+    let rest = c.args.rest.now in
+    let b = begun_from tail rest (rw c.read_start.ensures at c.validate_from.ensures) c.in-Ok.start c.in-Ok.steps c.in-Ok.is in
+    same_text (from_tail tail rest c.in-Ok.start c.in-Ok.steps b) c.args.text.now c.list_steps.ensures
+
+pub returns-in-Err : goal.returns-in-Err
+returns-in-Err c =
+    let tail = c.args.tail.now in
+    let rest = c.args.rest.now in
+    let e = refused_from tail rest (rw c.read_start.ensures at c.validate_from.ensures) c.in-Err.refused c.in-Err.is in
+    same_text (sym (ap (reading_text (λ _. start_release tail)) e)) c.args.text.now c.list_refusal.ensures

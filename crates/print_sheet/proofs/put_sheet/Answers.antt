@@ -2,27 +2,24 @@
 use Rattle.std.proofs.Common.{arith}
 use Rattle.print_sheet.proofs.Whole.{There, Outside, there, outside, sheet_short, lines_put, refusal_short, refusal_put}
 use Rattle.print_sheet.proofs.put_sheet.Goals as goal
-use Rattle.print_sheet.proofs.put_sheet.Goals.{In-Done, In-Refused}
+use Rattle.print_sheet.proofs.put_sheet.Goals.{In-Ok, In-Err}
 
-written : (c : In-Done) → There c.args.n c.args.votes c.args.k c.args.sheet.now c.requires.0 c.in-Done.end c.write_sheet-written.new.out
-written c = there c.args.n c.args.votes c.args.k c.args.sheet.now c.requires.0 c.in-Done.end c.write_sheet-written.new.out c.in-Done.ensures.0 c.in-Done.ensures.2
+written : (c : In-Ok) → There c.args.n c.args.votes c.args.k c.args.sheet.now (omega (arith, c.told-sheet)) c.in-Ok.end c.write_sheet.new.out
+written c = there c.args.n c.args.votes c.args.k c.args.sheet.now (omega (arith, c.told-sheet)) c.in-Ok.end c.write_sheet.new.out c.in-Ok.ensures.0 c.in-Ok.ensures.2
 
-refused : (c : In-Refused) → Outside c.args.n c.args.votes c.args.k c.in-Refused.number c.in-Refused.value
-refused c = outside c.args.n c.args.votes c.args.k c.args.sheet.now c.requires.0 c.in-Refused.number c.in-Refused.value c.in-Refused.ensures.0
-
-pub slice_bounds-put_lines-end : goal.slice_bounds-put_lines-end
-slice_bounds-put_lines-end c = (written (goal.at.slice_bounds-put_lines-end c).In-Done).ends
+refused : (c : In-Err) → Outside c.args.n c.args.votes c.args.k c.in-Err.refused
+refused c = outside c.args.n c.args.votes c.args.k c.args.sheet.now (omega (arith, c.told-sheet)) c.in-Err.refused c.in-Err.ensures.0
 
 pub put_lines-requires : goal.put_lines-requires
 put_lines-requires c =
-    let short = sheet_short (written (goal.at.put_lines-requires c).In-Done) in
-    (omega (arith, short), omega (arith, short, c.requires.1))
+    let short = sheet_short (written (goal.at.put_lines-requires c).In-Ok) in
+    (omega (arith, short), omega (arith, short, c.told-text))
 
-pub returns-in-Done : goal.returns-in-Done
-returns-in-Done c = lines_put (written (goal.at.returns-in-Done c).In-Done) c.requires.1 c.put_lines.ensures
+pub returns-in-Ok : goal.returns-in-Ok
+returns-in-Ok c = lines_put (written (goal.at.returns-in-Ok c).In-Ok) (omega (arith, c.told-text)) c.put_lines.ensures
 
 pub put_refusal-requires : goal.put_refusal-requires
-put_refusal-requires c = omega (arith, refusal_short (refused (goal.at.put_refusal-requires c).In-Refused), c.requires.1)
+put_refusal-requires c = omega (arith, refusal_short (refused (goal.at.put_refusal-requires c).In-Err), c.told-text)
 
-pub returns-in-Refused : goal.returns-in-Refused
-returns-in-Refused c = refusal_put (refused (goal.at.returns-in-Refused c).In-Refused) c.requires.1 c.put_refusal.ensures
+pub returns-in-Err : goal.returns-in-Err
+returns-in-Err c = refusal_put (refused (goal.at.returns-in-Err c).In-Err) (omega (arith, c.told-text)) c.put_refusal.ensures

@@ -22,6 +22,7 @@ returns-clause-ok g c =
     let read : length (take end input) ≡ end = length-take-le end input (omega arith) in
     let within : used ≤ end = omega (arith, c.in_ok-used.ensures.0) in
     let rest = rest_kept input keep.new.input used end keep.result within (omega arith) keep.ensures.0 keep.ensures.1 in
-    let then : FramesThen (take end input) (take keep.result keep.new.input) = subst (λ l. FramesThen (take end input) l) rest c.in_ok-used.ensures.1 in
+    let then : FramesThen (take end input) (take keep.result keep.new.input) =
+    subst (λ l. FramesThen (take end input) l) rest c.in_ok-used.ensures.1 in
     let long : length (take keep.result keep.new.input) ≡ keep.result = length-take-le keep.result keep.new.input (omega (arith, keep.ensures.0)) in
     (omega (arith, then.none.few), then)

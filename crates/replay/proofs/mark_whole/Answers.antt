@@ -6,11 +6,11 @@ use Rattle.replay.proofs.mark_whole.Goals as goal
 pub parts-init : goal.parts-init
 parts-init g c = (search rules, framed_none)
 
-pub returns-then-used-eq0 : goal.returns-then-used-eq0
-returns-then-used-eq0 g c =
+pub returns-then-marked-eq0 : goal.returns-then-marked-eq0
+returns-then-marked-eq0 g c =
     let turn = c.parts in
     let part = c.mark_frames-marked in
-    (turn.invariant.0, framed_all c.args.input.now turn.at part.ensures turn.invariant.1 c.if-used-eq0.true (omega arith))
+    (turn.invariant.0, framed_all c.args.input.now turn.at part.ensures turn.invariant.1 c.if-marked-eq0.true (omega arith))
 
 pub write_lines-requires : goal.write_lines-requires
 write_lines-requires g c = part_lines c.args.input.now c.parts.at c.mark_frames-marked.ensures

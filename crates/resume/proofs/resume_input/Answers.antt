@@ -8,8 +8,8 @@ use Rattle.resume.proofs.resume_input.Goals as goal
 pub write_resumed-requires : goal.write_resumed-requires
 write_resumed-requires g c =
     let input = c.args.input.now in
-    let size = c.in-Whole.size in
-    let whole = c.in-Whole.ensures in
+    let size = c.in-Some.size in
+    let whole = c.in-Some.ensures in
     let tail = schedule_there input 0 size whole in
     let rest = tail_part input (2 + size) ∙ rest_there input 0 size whole in
     record {

@@ -1,11 +1,7 @@
 -- `sheet::put_steps` meets its contract: what is left to put, after what was put, is the whole. Assumes nothing.
-use Prim.Native.Nat.{◌-◌, ◌≤◌}
 use Rattle.text.proofs.Putting.{Putting}
 use Rattle.sheet.specs.Level.{choices, choice_bytes}
 use Rattle.sheet.proofs.put_steps.Given as goal
 
 abbrev pub invariant-loop-c : goal.invariant-loop-c
-invariant-loop-c l = (l.c ≤ 162) × Putting (choice_bytes l.n) choices l.initial.out 0 l.out l.at l.c
-
-abbrev pub decreases-loop-c : goal.decreases-loop-c
-decreases-loop-c l = 162 - l.c
+invariant-loop-c l = Putting (choice_bytes l.n) choices l.initial.out 0 l.out l.at l.c

@@ -1,13 +1,7 @@
--- `totals::said` meets its contract: byte by byte. Assumes nothing.
-use mathlib.Core.Path.{◌≡◌}
-use mathlib.Core.Bool.{◌||◌}
-use Prim.Native.Nat.{◌-◌, ◌≤◌}
-use lib.ListN.{length, drop}
+use Rattle.std.proofs.Common.{◌≡◌, ◌||◌, drop}
 use Rattle.figures.specs.Figures.{said_in}
 use Rattle.totals.proofs.said.Given as goal
 
-abbrev pub invariant-loop-i : goal.invariant-loop-i
-invariant-loop-i l = (l.i ≤ length l.bytes) × (l.found || said_in l.o (drop l.i l.bytes) ≡ said_in l.o l.bytes)
-
-abbrev pub decreases-loop-i : goal.decreases-loop-i
-decreases-loop-i l = length l.bytes - l.i
+-- whether one was found, or is yet to be
+abbrev pub invariant-loop-b : goal.invariant-loop-b
+invariant-loop-b l = l.found || said_in l.o (drop l.b-index l.bytes) ≡ said_in l.o l.bytes

@@ -15,19 +15,25 @@ fits c =
     omega (arith, few_steps args.part.now args.context args.steps c.requires.0, c.requires.1, c.run_schedule-calls.auto)
 
 pub returns-then-steps-eq0 : goal.returns-then-steps-eq0
-returns-then-steps-eq0 c = let args = c.args in (c.with_one.ensures ∙ none_added args.part.now args.context args.steps c.requires.0 args.t c.if-steps-eq0.true, none_counted args.part.now args.context args.steps c.requires.0 args.column.now c.requires.3.parties c.if-steps-eq0.true)
+returns-then-steps-eq0 c =
+    let args = c.args in
+    let none = c.if-steps-eq0.true in (
+      c.with_one.ensures ∙ none_added args.part.now args.context args.steps c.requires.0 args.t none,
+      none_counted args.part.now args.context args.steps c.requires.0 args.column.now c.requires.3.parties none,
+    )
 
-pub slice_bounds-said-end : goal.slice_bounds-said-end
-slice_bounds-said-end c = fits (goal.at.slice_bounds-said-end c).After-run_schedule-calls
+pub slice_bounds-report-end : goal.slice_bounds-report-end
+slice_bounds-report-end c = fits (goal.at.slice_bounds-report-end c).After-run_schedule-calls
 
-pub slice_bounds-said-end-2 : goal.slice_bounds-said-end-2
-slice_bounds-said-end-2 c = sym (length-take-le _ _ (fits (goal.at.slice_bounds-said-end-2 c).After-run_schedule-calls))
-
-pub slice_bounds-said-end-3 : goal.slice_bounds-said-end-3
-slice_bounds-said-end-3 c = fits (goal.at.slice_bounds-said-end-3 c).After-run_schedule-calls
-
-pub slice_bounds-said-end-4 : goal.slice_bounds-said-end-4
-slice_bounds-said-end-4 c = sym (length-take-le _ _ (fits (goal.at.slice_bounds-said-end-4 c).After-run_schedule-calls))
+pub slice_bounds-report-end-2 : goal.slice_bounds-report-end-2
+slice_bounds-report-end-2 c = sym (length-take-le _ _ (fits (goal.at.slice_bounds-report-end-2 c).After-run_schedule-calls))
 
 pub returns : goal.returns
-returns c = let args = c.args in let ran = c.run_schedule-calls in (c.with_one-2.ensures ∙ added_is args.part.now args.context args.steps c.requires.0 args.t _ _ _ _ (bytes_front args.part.now args.context args.steps c.requires.0 args.bytes.now _ c.requires.1 ran.ensures.2) c.said-commit.ensures c.said-abort.ensures ran.ensures.0, ran.ensures.1)
+returns c =
+    let args = c.args in
+    let ran = c.run_schedule-calls in
+    let bytes = bytes_front args.part.now args.context args.steps c.requires.0 args.bytes.now _ c.requires.1 ran.ensures.2 in (
+      c.with_one-2.ensures
+          ∙ added_is args.part.now args.context args.steps c.requires.0 args.t _ _ _ _ bytes c.said.ensures c.said-2.ensures ran.ensures.0,
+      ran.ensures.1,
+    )

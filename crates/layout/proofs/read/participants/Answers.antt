@@ -1,0 +1,11 @@
+-- `layout::read::participants` meets its contract. Assumes nothing.
+use Rattle.std.proofs.Common.{refl, arith}
+use Rattle.store.specs.Log.{places}
+use Rattle.number.proofs.Table.{up_to_next, up_to_done}
+use Rattle.layout.proofs.read.participants.Goals as goal
+
+pub loop-i-preserved : goal.loop-i-preserved
+loop-i-preserved c = (omega arith, refl, up_to_next _ _ _ _ _ c.loop-i.invariant.2 c.participant.ensures)
+
+pub returns : goal.returns
+returns c = up_to_done places _ _ _ _ c.loop-i.invariant.0 (omega arith) refl c.loop-i.invariant.2

@@ -1,0 +1,12 @@
+-- `state::sites` meets its contract, case by case. Assumes nothing.
+use Rattle.std.proofs.Common.{refl, ap, arith}
+use Rattle.store.specs.Log.{places}
+use Rattle.number.proofs.Table.{up_to_next, up_to_done}
+use Rattle.state.specs.Types.{Participant}
+use Rattle.state.proofs.sites.Goals as goal
+
+pub loop-i-preserved : goal.loop-i-preserved
+loop-i-preserved c = (omega arith, refl, up_to_next _ _ _ _ _ c.loop-i.invariant.2 (ap (λ (p : Participant). record { participant = p }) c.participant_at.ensures))
+
+pub returns : goal.returns
+returns c = up_to_done places _ _ _ _ c.loop-i.invariant.0 (omega arith) refl c.loop-i.invariant.2
