@@ -74,7 +74,7 @@ impl Event {
     }
 
     // The event with these numbers; where there is none, a request.
-    fn of(event: u32, detail: u32, answer: u32) -> Event
+    pub fn of(event: u32, detail: u32, answer: u32) -> Event
         ensures { result ≡ event_of event detail answer }
     {
         match event {

@@ -5,7 +5,7 @@ pub mod from;
 pub mod single;
 
 ghost use Rattle.std.specs.Prelude.{◌≡◌, length};
-ghost use Rattle.number.specs.Refusal.{hands};
+ghost use Rattle.number.specs.Refusal.{hands, numbered_hands};
 ghost use Rattle.store.specs.Log.{record_number, record_of};
 ghost use Rattle.store.specs.Entry.{handed, log_once_entry, log_entry};
 ghost use Rattle.schedule.specs.Reader.{reader_answers};
@@ -19,7 +19,7 @@ ghost use Rattle.export.specs.Packed.{packed, four_bytes, seven_bytes, read_pack
 use kind::Kind;
 use listing::list;
 use marker::run;
-use number::{Refusal, Refused};
+use number::{Numbered, Refusal, Refused};
 use schedule::reader::read_record;
 use schedule::{Header, Record};
 use sheet::write_sheet;
@@ -48,13 +48,21 @@ fn seven(a: u32, b: u32, c: u32, x: u32) -> u64
     four(a, b, c, 0) as u64 + 16777216 * (x as u64)
 }
 
-pub fn pack_written(w: Result<usize, Refused>) -> u64
-    ensures { result ≡ packed (written_hands w) }
+// An answer, whatever number its refusal goes by.
+pub fn pack_written(w: Result<usize, Numbered>) -> u64
+    ensures { result ≡ packed (numbered_hands w) }
 {
     match w {
         Ok(end) => pack(0, end),
-        Err(refused) => pack(refused.refusal.number(), refused.value),
+        Err(refused) => pack(refused.number, refused.value),
     }
+}
+
+// The answer of an entry.
+fn pack_answered(w: Result<usize, Refused>) -> u64
+    ensures { result ≡ packed (written_hands w) }
+{
+    pack_written(w.map_err(Numbered::from))
 }
 
 fn pack_read(r: Result<(Record, usize), Refused>) -> u64
@@ -133,7 +141,7 @@ pub extern "C" fn compare_run(schedule: &[u8], report: &mut [u8]) -> u64
     ensures { (result ≡ packed (run_hands (length report.old) schedule.now))
         × (report.new ≡ run_leaves report.old schedule.now) }
 {
-    pack_written(run(schedule, report))
+    pack_answered(run(schedule, report))
 }
 
 #[unsafe(no_mangle)]
@@ -141,7 +149,7 @@ pub extern "C" fn compare_list(schedule: &[u8], text: &mut [u8]) -> u64
     ensures { (result ≡ packed (list_hands (length text.old) schedule.now))
         × (text.new ≡ list_leaves text.old schedule.now) }
 {
-    pack_written(list(schedule, text))
+    pack_answered(list(schedule, text))
 }
 
 #[unsafe(no_mangle)]
@@ -149,7 +157,7 @@ pub extern "C" fn compare_class(file: &[u8], text: &mut [u8]) -> u64
     ensures { (result ≡ packed (summary_hands (length text.old) file.now))
         × (text.new ≡ summary_leaves text.old file.now) }
 {
-    pack_written(summarize(file, text))
+    pack_answered(summarize(file, text))
 }
 
 #[unsafe(no_mangle)]
@@ -157,7 +165,7 @@ pub extern "C" fn compare_sheet(n: u32, votes: u32, k: u32, out: &mut [u8]) -> u
     ensures { (result ≡ packed (sheet_hands (length out.old) n votes k))
         × (out.new ≡ sheet_leaves out.old n votes k) }
 {
-    pack_written(write_sheet(n, votes, k, out))
+    pack_answered(write_sheet(n, votes, k, out))
 }
 
 #[unsafe(no_mangle)]
@@ -171,7 +179,7 @@ pub extern "C" fn compare_write(
     ensures { (result ≡ packed (writer_hands (length buffer.old) place kind first second))
         × (buffer.new ≡ writer_leaves buffer.old place kind first second) }
 {
-    pack_written(write_record(buffer, place as usize, kind, first, second))
+    pack_answered(write_record(buffer, place as usize, kind, first, second))
 }
 
 // `told` is the number of the kind of the header that came before, 0 where none did.

@@ -1,9 +1,9 @@
--- Worked class files: their bytes, and what they must be answered. One theorem covers the table: proofs/Cases.antt. Assumes nothing.
+-- Worked class files: their bytes, and what they must be answered and hand over. Two theorems cover the table: proofs/Cases.antt. Assumes nothing.
 use Rattle.std.specs.Prelude.{◌≡◌, List, [], ◌∷◌, ◌++◌, map, ℕ, suc, ◌-◌, length, replicate, Result, Ok, Err}
 use Rattle.number.specs.Refusal.{refusal_number}
 use Rattle.store.specs.Log.{places}
 use Rattle.figures.specs.Types.{Refused, Totals, Figures}
-use Rattle.figures.specs.Figures.{class_answers}
+use Rattle.figures.specs.Figures.{class_answers, ClassHanded, class_hands}
 
 -- schedules to put into a file: P1 of document 01 has an abort and four calls, three of them by participant 1, P2 a commit and two, P3 an abort and one;
 -- two have a header alone; in the last one the coordinator and participant 32 make a call each
@@ -78,3 +78,22 @@ cases =
 
 abbrev pub CasesHold : Type 0
 CasesHold = map (λ c. answered (class_answers c.file)) cases ≡ map (λ c. c.must) cases
+
+-- what each must hand over; every figure is 0 beside a refusal
+
+abbrev nothing : Figures
+nothing =
+    record {
+      totals = record { schedules = 0; commit = 0; abort = 0; neither = 0; largest = 0; first = 0; sites = 0 };
+      column = none_after [];
+      calls = 0;
+      mean = 0;
+      remainder = 0;
+    }
+
+abbrev pub must_hand : Answered → ClassHanded
+must_hand (gives f) = record { number = 0; place = 0; figures = f }
+must_hand (refuses k place) = record { number = k; place = place; figures = nothing }
+
+abbrev pub CasesHand : Type 0
+CasesHand = map (λ c. class_hands c.file) cases ≡ map (λ c. must_hand c.must) cases

@@ -1,6 +1,6 @@
 -- Requests 2026-06 and 2026-07, figures for a whole class, each taken from the single reports of its schedules. Assumes nothing.
 use Rattle.std.specs.Prelude.{Bool, false, cond, not, ◌&&◌, ◌||◌, List, [], ◌∷◌, map, ℕ, suc, ◌/◌, ◌%◌, eqb, length, replicate, Result, Ok, Err}
-use Rattle.number.specs.Refusal.{refused}
+use Rattle.number.specs.Refusal.{refused, accepted, refusal_number}
 use Rattle.number.specs.Table.{tabulate}
 use Rattle.store.specs.Log.{places}
 use Rattle.rules.specs.Report.{outcome_number, outcome_in}
@@ -100,3 +100,20 @@ class_answer (NoClass k place) = refused_with k place
 -- the entry: a file's bytes in, its figures out
 abbrev pub class_answers : List ℕ → Result Figures Refused
 class_answers file = class_answer (read_class file)
+
+-- What the entry hands over: 0 and the figures; or the refusal's number and its place, and no figures
+
+pub record ClassHanded : Type 0 where
+  pub number : ℕ
+  pub place : ℕ
+  pub figures : Figures
+
+abbrev pub no_figures : Figures
+no_figures = record { totals = no_totals; column = no_column; calls = 0; mean = 0; remainder = 0 }
+
+abbrev pub reading_hands : ClassReading → ClassHanded
+reading_hands (Class ss) = record { number = accepted; place = 0; figures = figures_of ss }
+reading_hands (NoClass k place) = record { number = refusal_number k; place = place; figures = no_figures }
+
+abbrev pub class_hands : List ℕ → ClassHanded
+class_hands file = reading_hands (read_class file)

@@ -5,7 +5,8 @@ use Prim.Native.Nat.{ℕ, ◌+◌, ◌^◌, ◌≤◌, ◌<◌}
 use native.Mathlib.Omega.{arith}
 use lib.ListN.{length, length-append}
 use Rattle.std.specs.Prelude.{Result, Ok, Err}
-use Rattle.number.specs.Refusal.{refusal_number}
+use Rattle.number.specs.declared.Refused.{Refused as RefusedBy}
+use Rattle.number.specs.Refusal.{refusal_number, with_number}
 use Rattle.text.specs.Text.{ascii, hexadecimal, refusal_line}
 use Rattle.text.proofs.Laws.{hexadecimal_length, decimal_length, refusal_length}
 use Rattle.schedule.specs.Schedule.{Reading, Accepted, Refused, read_schedule}
@@ -24,7 +25,6 @@ use Rattle.marker.specs.Report.{report_bytes, tail_size}
 use Rattle.marker.specs.Run.{reading_answer, reading_leaves, run_answers, run_leaves}
 use Rattle.marker.proofs.Left.{ran, answers, report_left}
 use Rattle.frame.specs.Types.{Step, Header}
-use Rattle.frame.specs.Types as types
 use Rattle.frame.specs.Frame.{answer_line, WroteWithin, reading_line, line_of, longest_report, longest_line}
 
 steps_most : (s : List ℕ) (h : Header) (steps : List Step) → read_schedule s ≡ Accepted h steps → length steps + tail_size h ≤ longest_report
@@ -34,23 +34,23 @@ steps_most s h steps e =
 -- What a run answers and leaves gives its line
 
 module _ (s report : List ℕ) (room : longest_report ≤ length report) where
-  done_line : (x : Reading) → read_schedule s ≡ x → answer_line (reading_answer (length report) x) (reading_leaves fresh_of report x) ≡ reading_line x
+  done_line : (x : Reading) → read_schedule s ≡ x → answer_line (with_number (reading_answer (length report) x)) (reading_leaves fresh_of report x) ≡ reading_line x
   done_line (Accepted h steps) e =
       let fits : length steps + tail_size h ≤ length report = omega (arith, steps_most s h steps e) in
       let has = fresh_places h.n h.votes in
-      ap (λ (y : Result ℕ types.Refused). answer_line y (reading_leaves fresh_of report (Accepted h steps)))
+      ap (λ (y : Result ℕ RefusedBy). answer_line (with_number y) (reading_leaves fresh_of report (Accepted h steps)))
       (answers fresh_of report {h = h} {steps = steps} refl has fits)
       ∙ ap (λ l. hexadecimal l ++ ascii "\n") (report_left fresh_of report {h = h} {steps = steps} refl has fits)
   done_line (Refused k place) e = refl
 
-  pub run_line : answer_line (run_answers (length report) s) (run_leaves report s) ≡ line_of s
+  pub run_line : answer_line (with_number (run_answers (length report) s)) (run_leaves report s) ≡ line_of s
   run_line = done_line (read_schedule s) refl
 
 -- what it wrote is in the report
-pub run_within : (s report left : List ℕ) → length left ≡ length report → WroteWithin (run_answers (length report) s) left
+pub run_within : (s report left : List ℕ) → length left ≡ length report → WroteWithin (with_number (run_answers (length report) s)) left
 run_within s report left same = go (run_answers (length report) s) refl
   where
-    go : (x : Result ℕ types.Refused) → run_answers (length report) s ≡ x → WroteWithin x left
+    go : (x : Result ℕ RefusedBy) → run_answers (length report) s ≡ x → WroteWithin (with_number x) left
     go (Ok end) e = let x = ran report (read_schedule s) end e in omega (arith, x.length_written, x.room)
     go (Err r) e = tt
 

@@ -9,19 +9,19 @@ use Rattle.form.specs.Form.{wide, tail_length}
 use Rattle.passes.specs.Pass.{fresh_of}
 use Rattle.marker.specs.Report.{report_bytes}
 use Rattle.marker.specs.Run.{run_leaves}
-use Rattle.frame.specs.Types as types
+use Rattle.frame.specs.Types.{Numbered}
 
 -- a schedule in its frame: two bytes length, low first, then its bytes
 abbrev pub frame_of : List ℕ → List ℕ
 frame_of schedule = length schedule % 256 ∷ length schedule / 256 ∷ schedule
 
--- one line: what an entry wrote into a lent buffer, in lower-case hexadecimal, or `refused K at B`
-abbrev pub answer_line : Result ℕ types.Refused → List ℕ → List ℕ
+-- one line: what an entry wrote into a lent buffer, in lower-case hexadecimal, or `refused K at B`, whatever number K is
+abbrev pub answer_line : Result ℕ Numbered → List ℕ → List ℕ
 answer_line (Ok end) left = hexadecimal (take end left) ++ ascii "\n"
-answer_line (Err r) left = refusal_line (refusal_number r.refusal) r.value
+answer_line (Err r) left = refusal_line r.number r.value
 
 -- what it wrote is in the buffer
-abbrev pub WroteWithin : Result ℕ types.Refused → List ℕ → Type 0
+abbrev pub WroteWithin : Result ℕ Numbered → List ℕ → Type 0
 WroteWithin (Ok end) left = end ≤ length left
 WroteWithin (Err r) left = Unit {0}
 

@@ -8,7 +8,7 @@ ghost use Rattle.frame.specs.Frame.{BeginsWith, MarkedUpTo, answer_line, WroteWi
 
 use form::TAIL;
 use marker::run;
-use number::Refused;
+use number::Numbered;
 use number::low::number;
 use schedule::LONGEST;
 use text::{put, put_hexadecimal, put_refusal};
@@ -45,7 +45,7 @@ pub fn first_frame(bytes: &[u8]) -> Option<usize>
 
 // The line of an entry's answer, at a place of the text: what it wrote into the buffer, or its refusal.
 pub fn put_answer(
-    answer: Result<usize, Refused>,
+    answer: Result<usize, Numbered>,
     left: &[u8],
     text: &mut [u8],
     place: usize,
@@ -58,7 +58,7 @@ pub fn put_answer(
             let end = put_hexadecimal(text, place, &left[..length]);
             put(text, end, b"\n")
         }
-        Err(refused) => put_refusal(text, place, refused),
+        Err(refused) => put_refusal(text, place, refused.number, refused.value),
     }
 }
 
@@ -68,7 +68,7 @@ pub fn put_line(schedule: &[u8], report: &mut [u8], text: &mut [u8], place: usiz
     ensures { Put text.old place (line_of schedule.now) result text.new × (result ≤ length text.old)
         × (report.new ≡ run_leaves report.old schedule.now) }
 {
-    let answer = run(schedule, report);
+    let answer = run(schedule, report).map_err(Numbered::from);
     put_answer(answer, report, text, place)
 }
 

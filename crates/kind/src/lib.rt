@@ -228,6 +228,8 @@ impl Step {
         ensures { result ≡ of_kind k a b }
     {
         match k {
+            Kind::Header => Step::Start,
+            Kind::Start => Step::Start,
             Kind::Deliver => Step::Deliver(Message::of(a), b),
             Kind::Copy => Step::Copy(Message::of(a), b),
             Kind::Lose => Step::Lose(Message::of(a), b),
@@ -236,7 +238,7 @@ impl Step {
             Kind::Timeout => Step::Timeout(a),
             Kind::Crash => Step::Crash(a),
             Kind::Restart => Step::Restart(a),
-            Kind::Header | Kind::Start | Kind::WideHeader => Step::Start,
+            Kind::WideHeader => Step::Start,
         }
     }
 

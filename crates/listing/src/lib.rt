@@ -94,7 +94,7 @@ fn list_refusal(refused: Refused, text: &mut [u8]) -> Result<usize, Refused>
         × (text.new ≡ text_left text.old (refusal_line (refusal_number refused.refusal) refused.value)) }
 {
     let mut last = [0u8; LAST];
-    let length = put_refusal(&mut last, 0, refused);
+    let length = put_refusal(&mut last, 0, refused.refusal.number(), refused.value);
     write_text(text, &last[..length])
 }
 
@@ -127,7 +127,8 @@ pub fn list_from(tail: &[u8], rest: &[u8], text: &mut [u8]) -> Result<usize, Ref
         × (written_hands result ≡ list_from_hands (length text.old) tail.now rest.now)
         × (text.new ≡ list_from_leaves text.old tail.now rest.now) }
 {
-    match validate_from(read_start(tail, Kind::WideHeader), rest) {
+    let read = read_start(tail, Kind::WideHeader).map_err(Refused::from);
+    match validate_from(read, rest) {
         Ok((start, steps)) => {
             let mut numbers = start.numbers;
             list_steps(

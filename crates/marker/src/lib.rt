@@ -72,7 +72,8 @@ pub fn run_from(tail: &[u8], rest: &[u8], report: &mut [u8]) -> Result<usize, Re
         × (written_hands result ≡ run_from_hands (length report.old) tail.now rest.now)
         × (report.new ≡ run_from_leaves report.old tail.now rest.now) }
 {
-    let (start, steps) = validate_from(read_start(tail, Kind::WideHeader), rest)?;
+    let read = read_start(tail, Kind::WideHeader).map_err(Refused::from);
+    let (start, steps) = validate_from(read, rest)?;
     let mut numbers = start.numbers;
     write_report(
         rest,

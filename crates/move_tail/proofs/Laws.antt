@@ -7,7 +7,7 @@ use lib.ListN.{length, length-append}
 use Rattle.std.specs.Prelude.{Option, Some, None, Result}
 use Rattle.number.specs.declared.Refusal.{Refusal}
 use Rattle.number.specs.declared.Refused.{Refused}
-use Rattle.number.specs.Refusal.{refusal_number}
+use Rattle.number.specs.Refusal.{refusal_number, with_number}
 use Rattle.text.specs.Text.{ascii, hexadecimal}
 use Rattle.text.proofs.Laws.{hexadecimal_length, decimal_length, refusal_length}
 use Rattle.kind.specs.declared.Kind.{Kind}
@@ -22,8 +22,8 @@ use Rattle.move_tail.specs.Line.{line_unless, moved_line, longest_line}
 
 -- the line of what a move answers and leaves, where the buffer has room
 pub record Moves (buffer tail line : List ℕ) : Type 0 where
-  pub said : answer_line (move_answers (length buffer) tail) (move_leaves buffer tail) ≡ line
-  pub within : (left : List ℕ) → length left ≡ length buffer → WroteWithin (move_answers (length buffer) tail) left
+  pub said : answer_line (with_number (move_answers (length buffer) tail)) (move_leaves buffer tail) ≡ line
+  pub within : (left : List ℕ) → length left ≡ length buffer → WroteWithin (with_number (move_answers (length buffer) tail)) left
   pub few : length line ≤ longest_line
 
 pub moves : (buffer tail : List ℕ) → tail_length wide ≤ length buffer → Moves buffer tail (moved_line tail)
@@ -37,9 +37,9 @@ moves buffer tail room = go (tail_refusal Kind.Header tail) refl
         let done = (move_done buffer tail taken room).0 in
         record {
           said =
-              ap (λ (x : Result ℕ Refused). answer_line x (move_leaves buffer tail)) (sym done)
+              ap (λ (x : Result ℕ Refused). answer_line (with_number x) (move_leaves buffer tail)) (sym done)
               ∙ ap (λ l. hexadecimal l ++ ascii "\n") (moved_left buffer tail taken room);
-          within = λ left same. subst (λ (x : Result ℕ Refused). WroteWithin x left) done (omega arith);
+          within = λ left same. subst (λ (x : Result ℕ Refused). WroteWithin (with_number x) left) done (omega arith);
           few =
               omega (
                 arith,
@@ -53,8 +53,8 @@ moves buffer tail room = go (tail_refusal Kind.Header tail) refl
         let number : ℕ = refusal_number k in
         let most : number ≤ 10 = refusal_most Kind.Header tail k e in
         record {
-          said = ap (λ (x : Result ℕ Refused). answer_line x (move_leaves buffer tail)) (sym answer);
-          within = λ left same. subst (λ (x : Result ℕ Refused). WroteWithin x left) answer tt;
+          said = ap (λ (x : Result ℕ Refused). answer_line (with_number x) (move_leaves buffer tail)) (sym answer);
+          within = λ left same. subst (λ (x : Result ℕ Refused). WroteWithin (with_number x) left) answer tt;
           few =
               omega (
                 arith,

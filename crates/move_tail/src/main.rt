@@ -8,6 +8,7 @@ ghost use Rattle.move_tail.specs.Line.{moved_line};
 use form::TAIL;
 use frame::put_answer;
 use input::read_full;
+use number::Numbered;
 use start::move_tail;
 use std::io;
 use std::io::Read;
@@ -21,7 +22,7 @@ type Text = [u8; TEXT];
 fn put_moved(tail: &[u8], moved: &mut [u8; TAIL], text: &mut Text) -> usize
     ensures { (result ≤ length text.new) × (take result text.new ≡ moved_line tail.now) }
 {
-    let answer = move_tail(tail, moved);
+    let answer = move_tail(tail, moved).map_err(Numbered::from);
     put_answer(answer, moved, text, 0)
 }
 

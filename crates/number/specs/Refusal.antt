@@ -1,7 +1,7 @@
 -- The numbers of refusals and what is handed over with them, document 01's table "What each refusal hands over". Every entry cites them.
 -- Assumes nothing.
 use Rattle.std.specs.Prelude.{ℕ, Result, Ok, Err}
-use Rattle.number.specs.Types.{Refusal, Refused}
+use Rattle.number.specs.Types.{Refusal, Refused, Numbered}
 
 abbrev pub refusal_number : Refusal → ℕ
 -- schedule empty or over 32,768 bytes
@@ -47,3 +47,17 @@ refused_hands r = hands (refusal_number r.refusal) r.value
 abbrev pub result_hands : Result ℕ Refused → Handed
 result_hands (Ok v) = hands accepted v
 result_hands (Err r) = refused_hands r
+
+-- a refusal by its number, and an answer with it
+
+abbrev pub by_number : Refused → Numbered
+by_number r = record { number = refusal_number r.refusal; value = r.value }
+
+abbrev pub with_number : {A : Type 0} → Result A Refused → Result A Numbered
+with_number (Ok x) = Ok x
+with_number (Err r) = Err (by_number r)
+
+-- what an answer hands over whose refusal goes by any number
+abbrev pub numbered_hands : Result ℕ Numbered → Handed
+numbered_hands (Ok v) = hands accepted v
+numbered_hands (Err r) = hands r.number r.value

@@ -4,7 +4,7 @@
 pub mod low;
 
 ghost use Rattle.std.specs.Prelude.{◌≡◌};
-ghost use Rattle.number.specs.Refusal.{refusal_number, refused};
+ghost use Rattle.number.specs.Refusal.{refusal_number, refused, by_number};
 
 // A refusal, with its number.
 #[derive(Clone, Copy, Debug, PartialEq, Eq)]
@@ -42,5 +42,23 @@ impl From<Refusal> for Refused {
 
     fn from(refusal: Refusal) -> Refused {
         Refused { refusal, value: 0 }
+    }
+}
+
+// A refusal by its number, whichever that is, with its place or length.
+#[derive(Clone, Copy, Debug, PartialEq, Eq)]
+pub struct Numbered {
+    pub number: u32,
+    pub value: usize,
+}
+
+impl From<Refused> for Numbered {
+    ghost from_gives = { λ r n. n ≡ by_number r };
+
+    fn from(refused: Refused) -> Numbered {
+        Numbered {
+            number: refused.refusal.number(),
+            value: refused.value,
+        }
     }
 }

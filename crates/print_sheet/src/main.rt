@@ -64,7 +64,7 @@ fn put_sheet(n: u32, votes: u32, k: u32, sheet: &mut Sheet, text: &mut Text) -> 
 {
     match write_sheet(n, votes, k, sheet) {
         Ok(end) => put_lines(text, &sheet[..end]),
-        Err(refused) => put_refusal(text, 0, refused),
+        Err(refused) => put_refusal(text, 0, refused.refusal.number(), refused.value),
     }
 }
 

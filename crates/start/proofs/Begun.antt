@@ -109,4 +109,5 @@ run_from_mask =
       answer = λ tail bytes c count e.
           let x = counted (read_from tail bytes) c count e in
           x.context ∙ ap context_of (rest_bytes_kept tail bytes c.header (steps_of (read_from tail bytes)) x.accepted).under;
+      handed_on = λ tail bytes s count e. same_context tail bytes s.context count (begun_from tail bytes refl s count e).steps;
     }

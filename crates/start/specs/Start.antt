@@ -1,7 +1,7 @@
 -- Request 2026-04: a run may start from a tail of 320 bytes instead of from fresh. Its bytes are then steps alone, and there may be none. Order of
 -- refusals: 1; 10 and 5 of the tail; records from the left, each 2, 3, 4, 5. Assumes nothing.
-use Rattle.std.specs.Prelude.{◌≡◌, cond, List, ℕ, suc, eqb, ltb, length, Option, Some, None, Result, Ok, Err}
-use Rattle.number.specs.Refusal.{refused}
+use Rattle.std.specs.Prelude.{◌≡◌, cond, List, ℕ, suc, ◌≤◌, ◌<◌, eqb, ltb, length, Option, Some, None, Result, Ok, Err, MatchResult, IsErrAnd}
+use Rattle.number.specs.Refusal.{accepted, refused, by_number, with_number}
 use Rattle.schedule.specs.Record.{longest}
 use Rattle.schedule.specs.Context.{context_of}
 use Rattle.schedule.specs.Schedule.{Reading, Refused, steps_from}
@@ -9,7 +9,7 @@ use Rattle.state.specs.Fields.{fields}
 use Rattle.tail.specs.Tail.{release_of, header_of, tail_in_range}
 use Rattle.form.specs.Form.{form_of, wide, tail_length, tail_at}
 use Rattle.passes.specs.Pass.{Validated, validated, HandsOn}
-use Rattle.start.specs.Types.{Kind, Header, Context, Release, Start, Refusal}
+use Rattle.start.specs.Types.{Kind, Header, Context, Release, Start, Refusal, Numbered}
 use Rattle.start.specs.Types as types
 
 -- a call count over 54,000 is out of range
@@ -44,12 +44,6 @@ read_under refusal h bytes = cond (ltb longest (length bytes)) (Refused Refusal.
 abbrev pub read_from : List ℕ → List ℕ → Reading
 read_from tail bytes = read_under (tail_refusal Kind.WideHeader tail) (start_header tail) bytes
 
--- Request 2026-05: in a run from a tail that is not refused, what is handed on is of the tail's header, with the mask of its n: also where a record is
--- refused; and in the answer of the first pass. Proved in proofs/Begun.antt
-pub record RunFromMask : Type 0 where
-  pub header : (tail bytes : List ℕ) → tail_refusal Kind.WideHeader tail ≡ None → HandsOn bytes (context_of (start_header tail))
-  pub answer : (tail bytes : List ℕ) (c : Context) (count : ℕ) → validated (read_from tail bytes) ≡ Ok (c, count) → c ≡ context_of (start_header tail)
-
 -- What the code makes of a tail: what refuses it, or its header with the mask of all participants, and its release as numbers and store
 
 abbrev pub start_at : Kind → List ℕ → Start
@@ -76,3 +70,45 @@ with_start s (Err k) = Err k
 abbrev pub validated_from : Result Start Refusal → List ℕ → Result (Start × ℕ) types.Refused
 validated_from (Ok s) bytes = with_start s (validated (read_under None s.context.header bytes))
 validated_from (Err k) bytes = cond (ltb longest (length bytes)) (Err (refused Refusal.EmptyOrTooLong 0)) (Err (refused k 0))
+
+-- Request 2026-05: in a run from a tail that is not refused, what is handed on is of the tail's header, with the mask of its n: also where a record is
+-- refused; in the reading; and in the start that the first pass answers. Proved in proofs/Begun.antt
+pub record RunFromMask : Type 0 where
+  pub header : (tail bytes : List ℕ) → tail_refusal Kind.WideHeader tail ≡ None → HandsOn bytes (context_of (start_header tail))
+  pub answer : (tail bytes : List ℕ) (c : Context) (count : ℕ) → validated (read_from tail bytes) ≡ Ok (c, count) → c ≡ context_of (start_header tail)
+  pub handed_on : (tail bytes : List ℕ) (s : Start) (count : ℕ) → validated_from (start_of Kind.WideHeader tail) bytes ≡ Ok (s, count)
+      → s.context ≡ context_of (start_header tail)
+
+-- What the code answers in the first pass, whatever a refusal goes on as: `gives` says it of a refusal of the bytes, and what refuses the start goes on
+-- as it is
+pub record ValidatedFrom {E : Type 0} (gives : types.Refused → E → Type 0) (start : Result Start E) (bytes : List ℕ) (y : Result (Start × ℕ) E) : Type 0 where
+  pub too_long : longest < length bytes → IsErrAnd y (gives (refused Refusal.EmptyOrTooLong 0))
+  pub by_start : (e : E) → length bytes ≤ longest → start ≡ Err e → y ≡ Err e
+  pub by_bytes : (s : Start) → start ≡ Ok s
+      → MatchResult (validated (read_under None s.context.header bytes)) (λ r. y ≡ Ok (s, r.1)) (λ k. IsErrAnd y (gives k))
+
+-- of a tail: its refusal goes on with place 0
+abbrev pub placed : Result Start Refusal → Result Start types.Refused
+placed (Ok s) = Ok s
+placed (Err k) = Err (refused k 0)
+
+-- of any number that refuses a start, 0 where none does: the same context with the count of steps, or the first refusal
+
+abbrev pub start_under : ℕ → Start → Result Start Numbered
+start_under refusal s = cond (eqb refusal accepted) (Ok s) (Err (record { number = refusal; value = 0 }))
+
+abbrev pub validated_under : ℕ → Header → List ℕ → Result (Context × ℕ) Numbered
+validated_under refusal h bytes =
+    cond (ltb longest (length bytes)) (Err (by_number (refused Refusal.EmptyOrTooLong 0)))
+    (cond (eqb refusal accepted) (with_number (validated (steps_from h 0 bytes 0))) (Err (record { number = refusal; value = 0 })))
+
+abbrev pub with_context : Result (Start × ℕ) Numbered → Result (Context × ℕ) Numbered
+with_context (Ok (s, count)) = Ok (s.context, count)
+with_context (Err r) = Err r
+
+-- Proved in proofs/AnyRefusal.antt
+pub record AnyRefusal : Type 0 where
+  pub of_tail : (start : Result Start Refusal) (bytes : List ℕ) (y : Result (Start × ℕ) types.Refused)
+      → ValidatedFrom (λ k r. r ≡ k) (placed start) bytes y → y ≡ validated_from start bytes
+  pub of_number : (refusal : ℕ) (s : Start) (bytes : List ℕ) (y : Result (Start × ℕ) Numbered) → s.context ≡ context_of s.context.header
+      → ValidatedFrom (λ k r. r ≡ by_number k) (start_under refusal s) bytes y → with_context y ≡ validated_under refusal s.context.header bytes

@@ -7,5 +7,6 @@ pub use Rattle.rules.specs.declared.Release.{Release}
 pub use Rattle.tail.specs.declared.Tail.{Tail}
 pub use Rattle.number.specs.declared.Refusal.{Refusal}
 pub use Rattle.number.specs.declared.Refused.{Refused}
+pub use Rattle.number.specs.declared.Numbered.{Numbered}
 pub use Rattle.start.specs.declared.Start.{Start}
 pub use Rattle.form.specs.declared.Form.{Form}

@@ -5,7 +5,7 @@ ghost use Rattle.std.specs.Prelude.{◌≡◌, length};
 ghost use Rattle.std.specs.Result.{ForOk};
 ghost use Rattle.schedule.specs.Context.{context_of};
 ghost use Rattle.writer.specs.Writer.{written_hands};
-ghost use Rattle.start.specs.Start.{start_of, validated_from};
+ghost use Rattle.start.specs.Start.{start_of, ValidatedFrom};
 ghost use Rattle.start.specs.Move.{move_answers, move_hands, move_leaves};
 
 use form::form_of;
@@ -71,13 +71,17 @@ pub fn move_tail(tail: &[u8], wide: &mut [u8]) -> Result<usize, Refused>
     Ok(needed)
 }
 
-// The first pass of a run from a tail: what refuses it, and then the steps from the left, under its header, with their count.
-pub fn validate_from(start: Result<Start, Refusal>, rest: &[u8]) -> Result<(Start, usize), Refused>
+// The first pass of a run from a tail: what refuses it, and then the steps from the left, under its header, with their count. A refusal goes on as the
+// caller takes it, by its number for one.
+pub fn validate_from<E: From<Refused> + Drop>(
+    start: Result<Start, E>,
+    rest: &[u8],
+) -> Result<(Start, usize), E>
     requires { ForOk start (λ s. s.context ≡ context_of s.context.header) }
-    ensures { result ≡ validated_from start rest.now }
+    ensures { ValidatedFrom E.from_gives start rest.now result }
 {
     if LONGEST < rest.len() {
-        return Err(Refusal::EmptyOrTooLong.into());
+        return Err(E::from(Refusal::EmptyOrTooLong.into()));
     }
     let start = start?;
     let (_, steps) = count_steps(rest, 0, start.context)?;

@@ -109,7 +109,7 @@ fn put_answer(text: &mut [u8], a: Result<Figures, Refused>) -> usize
 {
     match a {
         Ok(f) => put_figures(text, f),
-        Err(refused) => put_refusal(text, 0, refused),
+        Err(refused) => put_refusal(text, 0, refused.refusal.number(), refused.value),
     }
 }
 

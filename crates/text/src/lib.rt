@@ -2,11 +2,8 @@
 #![tactic(auto)]
 
 ghost use Rattle.std.specs.Prelude.{◌≡◌, cond, ◌+◌, ◌≤◌, ◌<◌, ltb, length};
-ghost use Rattle.number.specs.Refusal.{refusal_number};
 ghost use Rattle.text.specs.Put.{Put};
 ghost use Rattle.text.specs.Text.{digit, decimal, hexadecimal, refusal_line};
-
-use number::Refused;
 
 // These bytes as they are.
 pub fn put(text: &mut [u8], place: usize, bytes: &[u8]) -> usize
@@ -69,14 +66,14 @@ pub fn put_hexadecimal(text: &mut [u8], place: usize, bytes: &[u8]) -> usize
     at
 }
 
-// The line of a refusal.
-pub fn put_refusal(text: &mut [u8], place: usize, refused: Refused) -> usize
-    requires { place + length (refusal_line (refusal_number refused.refusal) refused.value) ≤ length text.old }
-    ensures { Put text.old place (refusal_line (refusal_number refused.refusal) refused.value) result text.new }
+// The line of a refusal, by its number and its place or length.
+pub fn put_refusal(text: &mut [u8], place: usize, k: u32, at: usize) -> usize
+    requires { place + length (refusal_line k at) ≤ length text.old }
+    ensures { Put text.old place (refusal_line k at) result text.new }
 {
     let number = put(text, place, b"refused ");
-    let middle = put_decimal(text, number, refused.refusal.number() as usize);
+    let middle = put_decimal(text, number, k as usize);
     let value = put(text, middle, b" at ");
-    let end = put_decimal(text, value, refused.value);
+    let end = put_decimal(text, value, at);
     put(text, end, b"\n")
 }

@@ -1,3 +1,4 @@
 pub mod Bytes
 pub mod Run
 pub mod Counting
+pub mod Handed

@@ -1,2 +1,3 @@
 pub mod Types
 pub mod Adding
+pub mod Handed

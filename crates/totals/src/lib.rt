@@ -8,8 +8,9 @@ ghost use Rattle.schedule.specs.Record.{longest};
 ghost use Rattle.schedule.specs.Schedule.{read_schedule};
 ghost use Rattle.passes.specs.Pass.{validated};
 ghost use Rattle.figures.specs.Sums.{sum};
-ghost use Rattle.figures.specs.Figures.{steps_reported, says, said_in, calls_of, calls_in as callsReported, with_mean, class_answers};
+ghost use Rattle.figures.specs.Figures.{steps_reported, says, said_in, calls_of, calls_in as callsReported, with_mean, class_answers, class_hands};
 ghost use Rattle.totals.specs.Adding.{first_after, one_added, schedule_of, schedule_added, calls_added, Room, Entries};
+ghost use Rattle.totals.specs.Handed.{figures_hands};
 
 use effect::outcome::report_byte;
 use figures::{Figures, Totals};
@@ -163,7 +164,7 @@ fn with_mean(t: Totals, column: [u32; PARTIES]) -> Figures
 
 // The figures of a class file. A schedule ends where the next header begins.
 pub fn class_figures(file: &[u8]) -> Result<Figures, Refused>
-    ensures { result ≡ class_answers file.now }
+    ensures { (result ≡ class_answers file.now) × (figures_hands result ≡ class_hands file.now) }
 {
     if LONGEST < file.len() || file.is_empty() {
         return Err(Refusal::EmptyOrTooLong.into());

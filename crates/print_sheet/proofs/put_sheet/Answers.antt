@@ -1,5 +1,7 @@
 -- `print_sheet::put_sheet` meets its contract: the lines of the sheet that was written, or the refusal's. Assumes nothing.
-use Rattle.std.proofs.Common.{arith}
+use Rattle.std.proofs.Common.{ap, arith}
+use Rattle.text.specs.Text.{refusal_line}
+use Rattle.text.proofs.Putting.{put_same}
 use Rattle.print_sheet.proofs.Whole.{There, Outside, there, outside, sheet_short, lines_put, refusal_short, refusal_put}
 use Rattle.print_sheet.proofs.put_sheet.Goals as goal
 use Rattle.print_sheet.proofs.put_sheet.Goals.{In-Ok, In-Err}
@@ -19,7 +21,9 @@ pub returns-in-Ok : goal.returns-in-Ok
 returns-in-Ok c = lines_put (written (goal.at.returns-in-Ok c).In-Ok) (omega (arith, c.told-text)) c.put_lines.ensures
 
 pub put_refusal-requires : goal.put_refusal-requires
-put_refusal-requires c = omega (arith, refusal_short (refused (goal.at.put_refusal-requires c).In-Err), c.told-text)
+put_refusal-requires c = rw c.number.ensures (omega (arith, refusal_short (refused (goal.at.put_refusal-requires c).In-Err), c.told-text))
 
 pub returns-in-Err : goal.returns-in-Err
-returns-in-Err c = refusal_put (refused (goal.at.returns-in-Err c).In-Err) (omega (arith, c.told-text)) c.put_refusal.ensures
+returns-in-Err c =
+    let put = put_same (ap (λ k. refusal_line k c.in-Err.refused.value) c.number.ensures) c.put_refusal.ensures in
+    refusal_put (refused (goal.at.returns-in-Err c).In-Err) (omega (arith, c.told-text)) put

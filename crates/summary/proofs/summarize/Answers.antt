@@ -12,7 +12,7 @@ use Rattle.summary.proofs.summarize.Goals.{After-class_figures, After-put_answer
 
 -- the text of the answer is the summary, and has room
 text : (c : After-class_figures) → answer_text c.class_figures.result ≡ summary c.args.file.now
-text c = ap answer_text c.class_figures.ensures ∙ answer_text_lem c.args.file.now
+text c = ap answer_text c.class_figures.ensures.0 ∙ answer_text_lem c.args.file.now
 
 fits : (c : After-class_figures) → length (answer_text c.class_figures.result) ≤ longest_summary
 fits c = omega (arith, ap length (text c), summary_fits c.args.file.now)
@@ -24,7 +24,7 @@ front c room = put_front c.put_answer-length.ensures room
 
 pub put_answer-length-requires : goal.put_answer-length-requires
 put_answer-length-requires c = (
-  subst (λ (a : Result Figures Refused). IfOk a (λ f. f.totals.sites ≤ places)) (sym c.class_figures.ensures) (answer_sites c.args.file.now),
+  subst (λ (a : Result Figures Refused). IfOk a (λ f. f.totals.sites ≤ places)) (sym c.class_figures.ensures.0) (answer_sites c.args.file.now),
   fits c,
 )
 

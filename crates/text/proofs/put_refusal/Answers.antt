@@ -3,6 +3,4 @@ use Rattle.text.proofs.Putting.{put_then}
 use Rattle.text.proofs.put_refusal.Goals as goal
 
 pub returns : goal.returns
-returns c =
-    let value = put_then c.put-value.ensures (put_then c.put_decimal-end.ensures c.put.ensures) in
-    rw (← c.number.ensures) (put_then c.put-number.ensures (put_then c.put_decimal-middle.ensures value))
+returns c = put_then c.put-number.ensures (put_then c.put_decimal-middle.ensures (put_then c.put-value.ensures (put_then c.put_decimal-end.ensures c.put.ensures)))

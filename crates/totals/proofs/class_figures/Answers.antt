@@ -12,9 +12,11 @@ use Rattle.schedule.specs.Record.{longest}
 use Rattle.schedule.specs.Schedule.{read_schedule}
 use Rattle.passes.specs.Pass.{Validated, validated}
 use Rattle.parts.specs.Parts.{part_length}
-use Rattle.figures.specs.Figures.{calls_of, no_totals, no_column, answer_with, refused_with, class_answers}
+use Rattle.figures.specs.Figures.{calls_of, no_totals, no_column, answer_with, refused_with, class_answers, class_hands}
 use Rattle.totals.specs.Types.{Context, Refused, Totals, Figures}
 use Rattle.totals.specs.Adding.{schedule_of, schedule_added, calls_added}
+use Rattle.totals.specs.Handed.{figures_hands}
+use Rattle.totals.proofs.Handed.{hands}
 use Rattle.totals.proofs.Counting.{Counting, set_out, room, entries, size_fits, stops, go_on, arrived, answered}
 use Rattle.totals.proofs.class_figures.Goals as goal
 use Rattle.totals.proofs.class_figures.Goals.{In_ok-context}
@@ -53,8 +55,12 @@ placed c k e = let was = c.in_err-context.was in grind (arith, common_steps)
 unread : (c : goal.After-from_residual) (v : Context × ℕ) → c.validate.result ≡ Ok v → ⊥
 unread c v e = let was = c.in_err-context.was in grind (arith, common_steps)
 
+-- what is answered hands over what the file must
+whole : (file : List ℕ) (x : Result Figures Refused) → x ≡ class_answers file → (x ≡ class_answers file) × (figures_hands x ≡ class_hands file)
+whole file x e = (e, ap figures_hands e ∙ hands file)
+
 pub returns-in_err-context : goal.returns-in_err-context
-returns-in_err-context c = go c.validate.result refl
+returns-in_err-context c = whole c.args.file.now c.from_residual.result (go c.validate.result refl)
   where
     go : (x : Validated) → c.validate.result ≡ x → ◌≡◌ {A = Result Figures Refused} c.from_residual.result (class_answers c.args.file.now)
     go (Ok v) e = absurd (unread c v e)
@@ -97,6 +103,7 @@ with_mean-requires c = ((arrived c.loop-at.invariant.2 c.loop-at-test.false c.lo
 
 pub returns : goal.returns
 returns c =
-    ap answer_with c.with_mean.ensures
+    whole c.args.file.now _
+    (ap answer_with c.with_mean.ensures
     ∙ (arrived c.loop-at.invariant.2 c.loop-at-test.false c.loop-at.invariant.0).1
-    ∙ answered c.args.file.now c.loop-at.invariant.2.short c.loop-at.invariant.0
+    ∙ answered c.args.file.now c.loop-at.invariant.2.short c.loop-at.invariant.0)
